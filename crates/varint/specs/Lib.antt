@@ -1,0 +1,4 @@
+pub mod Laws
+pub mod Number
+pub mod Sequence
+pub mod Write
