@@ -1,0 +1,9 @@
+pub mod Asked
+pub mod Counters
+pub mod Counts
+pub mod Fits
+pub mod Questions
+pub mod Rows
+pub mod Stores
+pub mod Sums
+pub mod Tests

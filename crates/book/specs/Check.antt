@@ -1,0 +1,31 @@
+-- Document 01: "Lent tables meet 2, 4, all of 5, then 6 to 8 in book order, then 9."
+use mathlib.Core.List.{List, [], _∷_}
+use Prim.Native.Nat.{ℕ, _+_}
+use lib.ListN.{length, take}
+use Rattle.book.specs.declared.Shape.{Shape}
+use Rattle.book.specs.Bounds.{mark}
+use Rattle.book.specs.Layout.{joined}
+use Rattle.book.specs.Tables.{bookOf}
+use Rattle.book.specs.InTurn.{_then_, ask}
+use Rattle.book.specs.Questions.{lengthQuestion, sizeQuestion, countQuestion, unusedZero}
+use Rattle.book.specs.Along.{processQuestion}
+
+-- all of 5
+unfoldable pub countsQuestion : ℕ → List ℕ → ℕ
+countsQuestion sum [] = 0
+countsQuestion sum (count ∷ counts) = countQuestion sum count then λ _. countsQuestion (sum + count) counts
+
+-- 6 to 8 in book order
+unfoldable pub rowsQuestion : ℕ → ℕ → List (List (List ℕ)) → ℕ
+rowsQuestion above n [] = 0
+rowsQuestion above n (checkpoints ∷ more) =
+    processQuestion above n (length checkpoints) (joined checkpoints) then λ _. rowsQuestion above n more
+
+-- the first question that lent tables fail
+unfoldable pub tablesQuestion : Shape → List ℕ → List ℕ → ℕ
+tablesQuestion shape sent received =
+    lengthQuestion sent received
+    then λ _. sizeQuestion (shape .n)
+    then λ _. countsQuestion 0 (take (shape .n) (shape .counts))
+    then λ _. rowsQuestion mark (shape .n) (bookOf shape sent received .processes)
+    then λ _. ask 9 (unusedZero shape sent received)

@@ -1,0 +1,11 @@
+pub mod Bounds
+pub mod Layout
+pub mod Tables
+pub mod View
+pub mod InTurn
+pub mod Questions
+pub mod Along
+pub mod Check
+pub mod Read
+pub mod Write
+pub mod Fits

@@ -1,0 +1,46 @@
+-- Reading a book: bytes and two lent tables in; taken into the tables, or refused by the first question that fails.
+use mathlib.Core.Bool.{Bool}
+use mathlib.Core.List.{List}
+use Prim.Native.Nat.{ℕ}
+use lib.ListN.{length, replicate}
+use lib.Dec.{eqb}
+use Rattle.varint.specs.Sequence.{numbersAt}
+use Rattle.book.specs.declared.Shape.{Shape}
+use Rattle.book.specs.Bounds.{groups, largest, mark, mostProcesses}
+use Rattle.book.specs.Layout.{Book, bookIn}
+use Rattle.book.specs.Tables.{shapeOf, sentTable, receivedTable}
+use Rattle.book.specs.InTurn.{_then_, unlessRefused}
+use Rattle.book.specs.Questions.{bytesQuestion, lengthQuestion}
+use Rattle.book.specs.Along.{bookQuestion}
+
+-- the numbers that the bytes hold, up to the first place at which none stands: whoever looks for a number there finds
+-- none, and question 3 fails
+abbrev pub numbersOf : List ℕ → List ℕ
+numbersOf bytes = numbersAt groups largest bytes 0 .found
+
+-- and whether they end where the bytes end
+abbrev pub ended : List ℕ → Bool
+ended bytes = eqb (numbersAt groups largest bytes 0 .stop) (length bytes)
+
+-- the first question that a read fails: 1, 2, then 3 to 9 along the book
+unfoldable pub readQuestion : List ℕ → List ℕ → List ℕ → ℕ
+readQuestion bytes sent received =
+    bytesQuestion bytes then λ _. lengthQuestion sent received then λ _. bookQuestion mark (ended bytes) (numbersOf bytes)
+
+-- the book that the bytes hold
+abbrev pub bookRead : List ℕ → Book
+bookRead bytes = bookIn (numbersOf bytes)
+
+-- the shape beside a refusal
+abbrev pub noShape : Shape
+noShape = record { n = 0; counts = replicate mostProcesses 0 }
+
+-- what a read answers beside the question: the shape, and what it leaves in the tables
+unfoldable pub shapeRead : List ℕ → List ℕ → List ℕ → Shape
+shapeRead bytes sent received = unlessRefused (readQuestion bytes sent received) noShape (shapeOf (bookRead bytes))
+
+unfoldable pub sentRead : List ℕ → List ℕ → List ℕ → List ℕ
+sentRead bytes sent received = unlessRefused (readQuestion bytes sent received) sent (sentTable (bookRead bytes))
+
+unfoldable pub receivedRead : List ℕ → List ℕ → List ℕ → List ℕ
+receivedRead bytes sent received = unlessRefused (readQuestion bytes sent received) received (receivedTable (bookRead bytes))

@@ -1,0 +1,131 @@
+// Checkpoint books and their tables (document 01, "The book"): the values that every layer shares, and what the reader,
+// the check of tables and the writer have in common. The definitions that their contracts cite are this crate's specs.
+ghost use mathlib.Core.Path.{_≡_};
+ghost use Prim.Native.Nat.{_+_, _-_, _*_, _≤_, _<_};
+ghost use lib.ListN.{length, getD};
+ghost use Rattle.book.specs.Tables.{column};
+ghost use Rattle.book.specs.View.{sum, firstRow, counterAt};
+ghost use Rattle.book.specs.Questions.{zeroIfOldest, counterQuestion};
+
+// The bounds of document 01.
+pub const MOST_PROCESSES: usize = 16;
+
+pub const MOST_CHECKPOINTS: usize = 256;
+
+pub const MOST_BYTES: usize = 65536;
+
+pub const GROUPS: u32 = 5;
+
+pub const LARGEST: u64 = 4294967295;
+// The mark for "not known": never a counter in a book.
+pub const MARK: u64 = 4294967295;
+
+pub const ROW_WIDTH: usize = 16;
+
+pub const ENTRIES: usize = 4096;
+
+// A process number, from 1 to n (K's j).
+pub struct Process(pub usize);
+
+// A checkpoint number within its process, from 1, the oldest (K's r).
+pub struct Checkpoint(pub usize);
+
+// An entry of a table.
+pub type Counter = u32;
+
+// A count of messages sent or received (K's counters).
+pub struct Count(pub Counter);
+
+// n, and how many checkpoints each of sixteen processes has; 0 for absent ones.
+pub struct Shape {
+    pub n: usize,
+    pub counts: [usize; 16],
+}
+
+// How large a book's numbers may be, in groups and in value, and its mark: arguments of a reader, since editions of the
+// format differ in them.
+pub struct Bounds {
+    pub groups: u32,
+    pub limit: u64,
+    pub mark: u64,
+}
+
+// The answer of a call whose result stands beside it or in lent tables: the number is that of the first question of
+// document 01 that fails.
+pub enum Answer {
+    Accepted,
+    Refused(u32),
+}
+
+// The answer to a write: how many bytes the book takes, or the question that refuses.
+pub enum WriteAnswer {
+    Length(usize),
+    Refused(u32),
+}
+
+// An entry as a number of the book.
+pub fn wide(v: Counter) -> u64
+    ensures { λ r. ⌜ r ≡ v ⌝ }
+{
+    v as u64
+}
+
+// Question 7 asks only the counters of an oldest checkpoint.
+fn zero_if_oldest(oldest: bool, v: u64) -> bool
+    ensures { λ r. ⌜ r ≡ zeroIfOldest oldest v ⌝ }
+{
+    if oldest { v == 0 } else { true }
+}
+
+// Questions 6 to 8 of one counter: the first that fails, 0 for none.
+pub fn counter_question(mark: u64, oldest: bool, before: u64, v: u64) -> u32
+    ensures { λ r. ⌜ r ≡ counterQuestion mark oldest before v ⌝ }
+{
+    if mark <= v {
+        return 6;
+    }
+    let is_zero = zero_if_oldest(oldest, v);
+    if !is_zero {
+        return 7;
+    }
+    if v < before {
+        return 8;
+    }
+    0
+}
+
+// The column of the k-th of the other processes, in rising order, in a row of process j; both count from 0.
+pub fn column(j: usize, k: usize) -> usize
+    requires { ⌜ k < 16 ⌝ }
+    ensures { λ r. ⌜ r ≡ column j k ⌝ }
+{
+    if k < j { k } else { k + 1 }
+}
+
+// The first row of a process in the tables.
+pub fn first_row(shape: Shape, j: Process) -> usize
+    requires { ⌜ (1 ≤ j .0) × ((j .0 ≤ 16) × (sum (shape .counts) ≤ 256)) ⌝ }
+    ensures { λ r. ⌜ r ≡ firstRow (shape .counts) (j .0 - 1) ⌝ }
+{
+    let counts = shape.counts;
+    let end = j.0 - 1;
+    let mut row = 0;
+    let mut i = 0;
+    while i < end {
+        row += counts[i];
+        i += 1;
+    }
+    row
+}
+
+// The counter of process j's checkpoint r for partner p: S in the sent table, R in the received one.
+pub fn counter(shape: Shape, table: &[Counter], j: Process, r: Checkpoint, p: Process) -> Count
+    requires { ⌜ (1 ≤ j .0) × ((j .0 ≤ 16) × (sum (shape .counts) ≤ 256)) ⌝ }
+    requires { ⌜ (1 ≤ r .0) × (r .0 ≤ getD (shape .counts) (j .0 - 1) 0) ⌝ }
+    requires { ⌜ (1 ≤ p .0) × ((p .0 ≤ 16) × (length (now table) ≡ 4096)) ⌝ }
+    ensures { λ v. ⌜ v .0 ≡ counterAt (shape .counts) (now (table .entry)) (j .0 - 1) (r .0) (p .0 - 1) ⌝ }
+{
+    let row = first_row(shape, j) + (r.0 - 1);
+    let at = row * ROW_WIDTH + (p.0 - 1);
+    Count(table[at])
+}
