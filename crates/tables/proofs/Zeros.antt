@@ -1,0 +1,55 @@
+-- Entries that are all zero: the turns of a loop that looks for another.
+use mathlib.Core.Path.{_≡_, refl, sym, ap, _∙_}
+use mathlib.Core.Bool.{Bool, true, false, _&&_}
+use mathlib.Core.List.{List, [], _∷_, _++_}
+use Prim.Native.Nat.{ℕ, _+_, _≤_, _<_}
+use native.Mathlib.Numerals.{add-one}
+use native.Mathlib.Omega.{arith}
+use borrow.Author.Tests.{eq-eqb, ne-eqb}
+use lib.ListN.{length, take, getD, drop-of-length-le}
+use lib.Seq.{slice, slice-cons, length-take-le}
+use lib.Dec.{eqb}
+use Rattle.book.specs.Questions.{allZero}
+
+pub zero-none : allZero [] ≡ true
+unfolding allZero
+zero-none = refl
+
+module _ (v : ℕ) (vs : List ℕ) where
+  pub zero-more : v ≡ 0 → allZero (v ∷ vs) ≡ allZero vs
+  unfolding allZero
+  zero-more h = rw (eq-eqb v 0 h)
+
+  pub zero-fails : (v ≡ 0 → ⊥) → allZero (v ∷ vs) ≡ false
+  unfolding allZero
+  zero-fails h = rw (ne-eqb v 0 h)
+
+pub zero-append : (a b : List ℕ) → allZero (a ++ b) ≡ (allZero a && allZero b)
+unfolding allZero
+zero-append [] b = refl
+zero-append (v ∷ a) b = and-part (eqb v 0) (zero-append a b)
+  where
+    and-part : (t : Bool) → allZero (a ++ b) ≡ (allZero a && allZero b) → (t && allZero (a ++ b)) ≡ ((t && allZero a) && allZero b)
+    and-part true h = h
+    and-part false h = refl
+
+-- `whole` is the answer for all the entries: the entries before i are zero
+pub record Zeros (whole : Bool) (l : List ℕ) (to i : ℕ) : Type 0 where
+  pub passed : i ≤ to
+  pub fits : to ≤ length l
+  pub rest : whole ≡ allZero (slice i to l)
+
+module _ (whole : Bool) (l : List ℕ) (to i : ℕ) (z : Zeros whole l to i) where
+  next : i < to → whole ≡ allZero (getD l i 0 ∷ slice (i + 1) to l)
+  next h = rw add-one (z .rest ∙ ap allZero (slice-cons i to l 0 h (z .fits)))
+
+  pub zeros-more : i < to → getD l i 0 ≡ 0 → Zeros whole l to (i + 1)
+  zeros-more h e =
+      record { passed = omega arith; fits = z .fits; rest = next h ∙ zero-more (getD l i 0) (slice (i + 1) to l) e }
+
+  pub zeros-fail : i < to → (getD l i 0 ≡ 0 → ⊥) → false ≡ whole
+  zeros-fail h e = sym (next h ∙ zero-fails (getD l i 0) (slice (i + 1) to l) e)
+
+  pub zeros-end : to ≤ i → true ≡ whole
+  zeros-end h =
+      sym (z .rest ∙ ap allZero (drop-of-length-le (take to l) {i = i} (rw (length-take-le to l (z .fits)) h)) ∙ zero-none)

@@ -1,0 +1,107 @@
+-- `tables::row_question` meets its contract: the counters before the k-th pass.
+use mathlib.Core.Path.{_≡_, refl}
+use Prim.Native.Nat.{_+_, _-_, _<_}
+use native.Mathlib.Omega.{arith}
+use borrow.Author.Needs.{needs}
+use lib.ListN.{drop, getD}
+use Rattle.book.specs.Bounds.{mark}
+use Rattle.book.specs.Tables.{others, column}
+use Rattle.book.specs.Questions.{counterQuestion}
+use Rattle.book.specs.Along.{countersQuestion}
+use Rattle.tables.specs.Before.{entryBefore, countersBefore}
+use Rattle.book.proofs.Rows.{column-within}
+use Rattle.tables.proofs.RowTurns.{Asked, asked-fail, asked-more, asked-end}
+use Rattle.tables.proofs.row_question.Statement.{statement}
+use Rattle.tables.proofs.row_question.Tie as tie
+
+abbrev Inv-loop : tie.InvT-loop
+Inv-loop table start n j oldest k₀ k = Asked (countersQuestion mark oldest (countersBefore oldest n j start table) (others n j (drop start table))) mark oldest table start n j k
+
+abbrev μ-loop : tie.MeasureT-loop
+μ-loop table start n j oldest k₀ k = n - 1 - k
+
+loop-holds : tie.Need-loop-holds Inv-loop μ-loop
+loop-holds c = record { passed = search needs; rest = refl }
+
+sub-loop : tie.Need-sub-loop Inv-loop μ-loop
+sub-loop c = omega arith
+
+column-requires : tie.Need-column-requires Inv-loop μ-loop
+column-requires c κs = omega arith
+
+-- the entry lies in the row
+within : (c : tie.After-column Inv-loop μ-loop) → c .column .result < c .before .before .before .before .args .n
+within c =
+    let a = c .before .before .before .before .args in
+    omega (arith, c .column .ensures, column-within (a .j) (c .before .before .loop .k))
+
+add-at : tie.Need-add-at Inv-loop μ-loop
+add-at c = omega (arith, within c)
+
+mul-wide : tie.Need-mul-wide Inv-loop μ-loop
+mul-wide c = omega (arith, within c)
+
+shared-slice-read-wide : tie.Need-shared-slice-read-wide Inv-loop μ-loop
+shared-slice-read-wide c = omega (arith, within (c .before))
+
+wide-requires : tie.Need-wide-requires Inv-loop μ-loop
+wide-requires c κs = search needs
+
+entry-before-requires : tie.Need-entry-before-requires Inv-loop μ-loop
+entry-before-requires c κs =
+    let a = c .before .before .before .before .before .before in
+    (omega (arith, within (c .before .before)), λ e. omega (arith, a .pre .later e))
+
+counter-question-requires : tie.Need-counter-question-requires Inv-loop μ-loop
+counter-question-requires c κs = search needs
+
+-- the answer is that of the k-th counter
+found : (c : tie.After-counter-question Inv-loop μ-loop)
+    → let a = c .before .before .before .before .before .before .before .before .args in
+    let at = a .start + column (a .j) (c .before .before .before .before .before .before .loop .k) in
+    c .counter-question .result ≡ counterQuestion mark (a .oldest) (entryBefore (a .oldest) at (a .table .now)) (getD (a .table .now) at 0)
+found c =
+    rw (← c .before .before .before .before .column .ensures, ← c .before .entry-before .ensures, ← c .before .before .wide .ensures)
+    (c .counter-question .ensures)
+
+returns : tie.Need-returns Inv-loop μ-loop
+returns c =
+    asked-fail _ _ _ _ _ (c .before .before .before .before .before .before .before .before .before .pre) _ _ _
+    (c .before .before .before .before .before .before .before .loop .inv) _
+    (found (c .before)) (c .before .before .before .before .before .before .loop-test .taken) (c .if1 .taken)
+
+add-k : tie.Need-add-k Inv-loop μ-loop
+add-k c = omega arith
+
+loop-less : tie.Need-loop-less Inv-loop μ-loop
+loop-less c = omega arith
+
+loop-again : tie.Need-loop-again Inv-loop μ-loop
+loop-again c =
+    asked-more _ _ _ _ _ (c .before .before .before .before .before .before .before .before .before .pre) _ _ _
+    (c .before .before .before .before .before .before .before .loop .inv) _
+    (found (c .before)) (c .before .before .before .before .before .before .loop-test .taken) (c .if1 .left)
+
+returns-2 : tie.Need-returns-2 Inv-loop μ-loop
+returns-2 c = asked-end _ _ _ _ _ (c .before .before .before .pre) _ _ _ (c .before .loop .inv) (c .loop-test .left)
+
+pub row-question-spec : {M : Type 1} → statement M
+row-question-spec =
+    tie.close
+    (tie.spec
+    Inv-loop
+    μ-loop
+    loop-holds
+    sub-loop
+    column-requires
+    add-at
+    mul-wide
+    shared-slice-read-wide
+    wide-requires
+    entry-before-requires
+    counter-question-requires
+    returns
+    add-k
+    loop-less
+    loop-again
+    returns-2)
