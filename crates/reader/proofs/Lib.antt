@@ -1,0 +1,12 @@
+pub mod Accepted
+pub mod BookTurns
+pub mod CheckpointTurns
+pub mod CounterTurns
+pub mod FillBook
+pub mod FillProcess
+pub mod FillProcesses
+pub mod FillRow
+pub mod FillTurns
+pub mod ProcessTurns
+pub mod ProcessesTurns
+pub mod ReadTurns
