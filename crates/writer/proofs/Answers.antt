@@ -1,0 +1,73 @@
+-- The answer to a write by the tests that led to it, and what holds of tables that no question refuses.
+use mathlib.Core.Path.{_≡_, refl, sym, ap, _∙_}
+use mathlib.Core.Bool.{Bool, true, false, _&&_}
+use mathlib.Core.List.{List}
+use Prim.Native.Nat.{ℕ, zero, suc, _≤_, _<_}
+use native.Mathlib.Omega.{arith}
+use borrow.Author.Tests.{eqb-true, leb-true, le-leb, lt-leb}
+use lib.ListN.{length, take}
+use lib.Seq.{sets}
+use lib.Dec.{eqb, leb}
+use Rattle.book.specs.declared.Shape.{Shape}
+use Rattle.book.specs.declared.WriteAnswer.the-variants.{Length, Refused}
+use Rattle.book.specs.View.{sum}
+use Rattle.book.specs.InTurn.{_then_, ask}
+use Rattle.book.specs.Questions.{sizeQuestion, lengthQuestion}
+use Rattle.book.specs.Check.{countsQuestion, tablesQuestion}
+use Rattle.book.specs.Write.{bytesOf, lengthOr, writeQuestion, writeAnswer, bytesWritten}
+use Rattle.book.specs.Fits.{BookFits}
+use Rattle.book.proofs.Questions.{then-refused, then-none, asked-yes, kept-refused}
+use Rattle.book.proofs.Counts.{counts-few}
+
+-- a question of two parts that does not fail
+both-yes : (k : ℕ) (a b : Bool) → ask (suc k) (a && b) ≡ 0 → (a ≡ true) × (b ≡ true)
+both-yes k true b h = (refl, asked-yes k b h)
+both-yes k false b h = absurd (omega arith)
+
+length-refused : (q long : ℕ) → (q ≡ 0 → ⊥) → lengthOr q long ≡ Refused q
+length-refused zero long h = absurd (h refl)
+length-refused (suc q) long h = refl
+
+module _ (shape : Shape) (sent received : List ℕ) where
+  -- where no question refuses the tables, the rows of all processes lie in them
+  pub accepted : tablesQuestion shape sent received ≡ 0
+      → BookFits (shape .n) (shape .counts) sent × BookFits (shape .n) (shape .counts) received
+  unfolding tablesQuestion
+  accepted h =
+      let counts : List ℕ = take (shape .n) (shape .counts) in
+      let a = then-none (lengthQuestion sent received) _ h in
+      let b = then-none (sizeQuestion (shape .n)) _ (a .1) in
+      let c = then-none (countsQuestion 0 counts) _ (b .1) in
+      let lengths = both-yes 1 (eqb (length sent) 4096) (eqb (length received) 4096) (a .0) in
+      let size = both-yes 3 (leb 1 (shape .n)) (leb (shape .n) 16) (b .0) in
+      let most = leb-true (shape .n) 16 (size .1) in
+      let inside : sum counts ≤ 256 = omega (arith, counts-few 0 counts (omega arith) (c .0)) in
+      let s = eqb-true (length sent) 4096 (lengths .0) in
+      let r = eqb-true (length received) 4096 (lengths .1) in
+      (record { most = most; inside = inside; whole = s }, record { most = most; inside = inside; whole = r })
+
+  module _ (out : List ℕ) where
+    fits-buffer : Unit {0} → ℕ
+    fits-buffer _ = ask 17 (leb (length (bytesOf shape sent received)) (length out))
+
+    -- a question of the tables fails
+    pub refused : {q : ℕ} → q ≡ tablesQuestion shape sent received → (q ≡ 0 → ⊥)
+        → (Refused q ≡ writeAnswer shape sent received out) × (out ≡ bytesWritten shape sent received out)
+    unfolding writeAnswer bytesWritten writeQuestion fits-buffer
+    refused {q} e f =
+        let first = then-refused (tablesQuestion shape sent received) fits-buffer (λ z. f (e ∙ z)) in
+        let w : writeQuestion shape sent received out ≡ q = first ∙ sym e in
+        (sym (rw w (length-refused q _ f)), sym (rw w (kept-refused q out _ f)))
+
+    module _ {size : ℕ} (e : tablesQuestion shape sent received ≡ 0) (same : size ≡ length (bytesOf shape sent received)) where
+      -- question 17 fails
+      pub full : length out < size
+          → (Refused 17 ≡ writeAnswer shape sent received out) × (out ≡ bytesWritten shape sent received out)
+      unfolding writeAnswer bytesWritten writeQuestion
+      full h = rw (e, lt-leb (length (bytesOf shape sent received)) (length out) (omega arith)) (refl, refl)
+
+      -- none fails
+      pub written : {out′ : List ℕ} → size ≤ length out → out′ ≡ sets out 0 (bytesOf shape sent received)
+          → (Length size ≡ writeAnswer shape sent received out) × (out′ ≡ bytesWritten shape sent received out)
+      unfolding writeAnswer bytesWritten writeQuestion
+      written h w = rw (e, le-leb (length (bytesOf shape sent received)) (length out) (omega arith)) (ap Length same, w)
