@@ -1,0 +1,98 @@
+-- Document 01, "Books and sessions tried": the starred examples, in one list, and what each of them claims of the
+-- definitions that the contracts cite.
+use mathlib.Core.Path.{_≡_}
+use mathlib.Core.List.{List, [], _∷_, _++_}
+use Prim.Native.Nat.{ℕ, _-_}
+use lib.ListN.{length, replicate}
+use Rattle.varint.specs.declared.Numeral.the-variants as numeral
+use Rattle.varint.specs.Number.{encode, readNumber}
+use Rattle.book.specs.declared.Shape.{Shape}
+use Rattle.book.specs.declared.Answer.{Answer}
+use Rattle.book.specs.declared.Answer.the-variants as answer
+use Rattle.book.specs.Bounds.{groups, largest, entries, mostProcesses}
+use Rattle.book.specs.Tables.{padded}
+use Rattle.book.specs.View.{S, R}
+use Rattle.book.specs.InTurn.{answerTo}
+use Rattle.book.specs.Read.{noShape, readQuestion, shapeRead, sentRead, receivedRead}
+
+-- ---- what can be claimed
+
+pub data Example : Type 0 where
+  -- a number has these bytes
+  HasBytes : ℕ → List ℕ → Example
+  -- these bytes are read as a number, whole
+  IsNumber : List ℕ → ℕ → Example
+  -- no number stands at the start of these bytes
+  NoNumber : List ℕ → Example
+  -- a book is refused by this question
+  RefusedBy : List ℕ → ℕ → Example
+  -- a book is accepted, with n and the counts of its processes
+  AcceptedAs : List ℕ → ℕ → List ℕ → Example
+  -- in a book, process j's checkpoint r has sent partner p so many messages, or received so many from it
+  HasSent HasReceived : List ℕ → ℕ → ℕ → ℕ → ℕ → Example
+
+-- the tables that a read is lent
+abbrev pub lent : List ℕ
+lent = replicate entries 0
+
+-- what a read of a book answers, with the shape beside it
+abbrev pub answered : List ℕ → Answer × Shape
+answered book = (answerTo (readQuestion book lent lent), shapeRead book lent lent)
+
+abbrev pub holds : Example → Type 0
+holds (HasBytes n bytes) = encode n ≡ bytes
+holds (IsNumber bytes n) = readNumber groups largest bytes 0 ≡ numeral.Number n (length bytes)
+holds (NoNumber bytes) = readNumber groups largest bytes 0 ≡ numeral.Refused
+holds (RefusedBy book question) = answered book ≡ (answer.Refused question, noShape)
+holds (AcceptedAs book n counts) = answered book ≡ (answer.Accepted, record { n = n; counts = padded mostProcesses counts })
+holds (HasSent book j r p v) = S (shapeRead book lent lent) (sentRead book lent lent) (j - 1) r (p - 1) ≡ v
+holds (HasReceived book j r p v) = R (shapeRead book lent lent) (receivedRead book lent lent) (j - 1) r (p - 1) ≡ v
+
+-- all of a list hold
+infixr 5 _also_
+pub data Hold : List Example → Type 0 where
+  none : Hold []
+  _also_ : {example : Example} {more : List Example} → holds example → Hold more → Hold (example ∷ more)
+
+-- ---- the examples
+
+-- K example 1
+abbrev pub k1 : List ℕ
+k1 =
+    0x03 ∷ 0x02 ∷ 0x00 ∷ 0x00 ∷ 0x00 ∷ 0x00 ∷ 0x00 ∷ 0x00 ∷ 0x04 ∷ 0x05
+    ∷ 0x02 ∷ 0x00 ∷ 0x00 ∷ 0x00 ∷ 0x00 ∷ 0x03 ∷ 0x00 ∷ 0x00 ∷ 0x00
+    ∷ 0x02 ∷ 0x00 ∷ 0x00 ∷ 0x00 ∷ 0x00 ∷ 0x07 ∷ 0x00 ∷ 0x00 ∷ 0x00 ∷ []
+
+-- two processes, the first with two checkpoints: these bytes are what the later one has sent the second process
+abbrev pub laterCounter : List ℕ → List ℕ
+laterCounter bytes = 0x02 ∷ 0x02 ∷ 0x00 ∷ 0x00 ∷ (bytes ++ (0x00 ∷ 0x01 ∷ 0x00 ∷ 0x00 ∷ []))
+
+-- FE FF FF FF 0F
+abbrev pub largestCounter : List ℕ
+largestCounter = 0xFE ∷ 0xFF ∷ 0xFF ∷ 0xFF ∷ 0x0F ∷ []
+
+abbrev pub starred : List Example
+starred =
+    RefusedBy [] 3
+    ∷ AcceptedAs (0x01 ∷ 0x03 ∷ []) 1 (3 ∷ [])
+    ∷ AcceptedAs (0x02 ∷ 0x01 ∷ 0x00 ∷ 0x00 ∷ 0x01 ∷ 0x00 ∷ 0x00 ∷ []) 2 (1 ∷ 1 ∷ [])
+    ∷ AcceptedAs k1 3 (2 ∷ 2 ∷ 2 ∷ [])
+    ∷ HasReceived k1 1 2 2 4
+    ∷ HasReceived k1 1 2 3 5
+    ∷ HasSent k1 2 2 1 3
+    ∷ HasSent k1 3 2 1 7
+    ∷ HasBytes 127 (0x7F ∷ [])
+    ∷ IsNumber (0x7F ∷ []) 127
+    ∷ HasBytes 128 (0x80 ∷ 0x01 ∷ [])
+    ∷ IsNumber (0x80 ∷ 0x01 ∷ []) 128
+    ∷ NoNumber (0x80 ∷ 0x00 ∷ [])
+    ∷ RefusedBy (0x80 ∷ 0x00 ∷ []) 3
+    ∷ AcceptedAs (laterCounter largestCounter) 2 (2 ∷ 1 ∷ [])
+    ∷ HasSent (laterCounter largestCounter) 1 2 2 4294967294
+    ∷ RefusedBy (laterCounter (0xFF ∷ 0xFF ∷ 0xFF ∷ 0xFF ∷ 0x0F ∷ [])) 6
+    ∷ RefusedBy (laterCounter (0xFF ∷ 0xFF ∷ 0xFF ∷ 0xFF ∷ 0x1F ∷ [])) 3
+    ∷ []
+
+-- The starred examples hold.
+abbrev pub Starred : Type 0
+Starred = Hold starred

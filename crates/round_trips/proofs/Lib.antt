@@ -1,0 +1,15 @@
+pub mod Zeros
+pub mod Numbers
+pub mod Sound
+pub mod Row
+pub mod ToTables
+pub mod FromTables
+pub mod Books
+pub mod Tables
+pub mod Counters
+pub mod Sizes
+pub mod Well
+pub mod Reading
+pub mod Writing
+pub mod View
+pub mod Theorems
