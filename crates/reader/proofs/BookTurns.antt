@@ -21,7 +21,8 @@ use Rattle.reader.specs.Parts.{numbersFrom, wholeFrom, checked}
 module _ (b : Bounds) (s : List ℕ) where
   pub book-short : readNumber (b .groups) (b .limit) s 0 ≡ Refused → 3 ≡ bookQuestion (b .mark) (wholeFrom b s 0) (numbersFrom b s 0 .found)
   unfolding bookQuestion
-  book-short r = sym (ap (λ (ns : Numbers). bookQuestion (b .mark) (eqb (ns .stop) (length s)) (ns .found)) (numbers-none (b .groups) (b .limit) s 0 r))
+  book-short r = sym
+      (ap (λ (ns : Numbers). bookQuestion (b .mark) (eqb (ns .stop) (length s)) (ns .found)) (numbers-none (b .groups) (b .limit) s 0 r))
 
   module _ (n next : ℕ) (r : readNumber (b .groups) (b .limit) s 0 ≡ Number n next) where
     go : numbersFrom b s 0 ≡ record { found = n ∷ (numbersFrom b s next .found); stop = numbersFrom b s next .stop }
@@ -33,7 +34,8 @@ module _ (b : Bounds) (s : List ℕ) where
 
     four : sizeQuestion n ≡ 4 → 4 ≡ bookQuestion (b .mark) (wholeFrom b s 0) (numbersFrom b s 0 .found)
     unfolding bookQuestion
-    four e = sym (turn ∙ then-refused (sizeQuestion n) (λ _. processesQuestion (b .mark) n n 0 (wholeFrom b s next) (numbersFrom b s next .found)) (λ z. omega (arith, sym e ∙ z)) ∙ e)
+    four e = sym
+        (turn ∙ then-refused (sizeQuestion n) (λ _. processesQuestion (b .mark) n n 0 (wholeFrom b s next) (numbersFrom b s next .found)) (λ z. omega (arith, sym e ∙ z)) ∙ e)
 
     pub book-none : n < 1 → 4 ≡ bookQuestion (b .mark) (wholeFrom b s 0) (numbersFrom b s 0 .found)
     book-none h = four (size-none n h)
@@ -45,10 +47,12 @@ module _ (b : Bounds) (s : List ℕ) where
         → bookQuestion (b .mark) (wholeFrom b s 0) (numbersFrom b s 0 .found)
         ≡ processesQuestion (b .mark) n n 0 (wholeFrom b s next) (numbersFrom b s next .found)
     unfolding bookQuestion
-    book-goes-on h k = turn ∙ then-passed (sizeQuestion n) (λ _. processesQuestion (b .mark) n n 0 (wholeFrom b s next) (numbersFrom b s next .found)) (size-given n h k)
+    book-goes-on h k = turn ∙ then-passed (sizeQuestion n)
+        (λ _. processesQuestion (b .mark) n n 0 (wholeFrom b s next) (numbersFrom b s next .found)) (size-given n h k)
 
     pub book-checked : 1 ≤ n → n ≤ 16
-        → checked (processesQuestion (b .mark) n n 0 (wholeFrom b s next) (numbersFrom b s next .found)) (shapeOf (record { n = n; processes = processesIn n (width n) (numbersFrom b s next .found) }))
+        → checked (processesQuestion (b .mark) n n 0 (wholeFrom b s next) (numbersFrom b s next .found))
+        (shapeOf (record { n = n; processes = processesIn n (width n) (numbersFrom b s next .found) }))
         ≡ checked (bookQuestion (b .mark) (wholeFrom b s 0) (numbersFrom b s 0 .found)) (shapeOf (bookIn (numbersFrom b s 0 .found)))
     book-checked h k =
         sym (ap (λ (q : ℕ). checked q (shapeOf (bookIn (numbersFrom b s 0 .found)))) (book-goes-on h k)

@@ -55,25 +55,31 @@ passed-begun b w count s at h =
       rest = rw (zero-mul w);
     }
 
-module _ (b : Bounds) (w count : ℕ) (s : List ℕ) (at next r : ℕ) (row : List ℕ) (inv : Passed b w count s at next r row) (small : w ≤ 30) (h : r < count) (step : Step) (read : List ℕ)
+module _ (b : Bounds) (w count : ℕ) (s : List ℕ) (at next r : ℕ) (row : List ℕ) (inv : Passed b w count s at next r row) (small : w ≤ 30)
+    (h : r < count) (step : Step) (read : List ℕ)
     (did : CountersChecked b (eqb r 0) (take w row) s next step read) where
   width : length (take w row) ≡ w
   width = length-take-le w row (omega (arith, inv .long))
 
   turn : checkpointsQuestion (b .mark) true (replicate w 0) count (numbersFrom b s at .found)
-      ≡ (step .question then λ _. checkpointsQuestion (b .mark) false (take w (numbersFrom b s next .found)) (count - (r + 1)) (drop w (numbersFrom b s next .found)))
+      ≡
+      (step .question then λ _. checkpointsQuestion (b .mark) false (take w (numbersFrom b s next .found)) (count - (r + 1)) (drop w (numbersFrom b s next .found)))
   turn =
       let more : count - r ≡ suc (count - (r + 1)) = omega arith in
       inv .asked
       ∙ ap (λ (m : ℕ). checkpointsQuestion (b .mark) (eqb r 0) (take w row) m (numbersFrom b s next .found)) more
       ∙ checkpoints-more (b .mark) (eqb r 0) (take w row) (count - (r + 1)) (numbersFrom b s next .found)
-      ∙ ap (λ (q : ℕ). q then λ _. checkpointsQuestion (b .mark) false (take (length (take w row)) (numbersFrom b s next .found)) (count - (r + 1)) (drop (length (take w row)) (numbersFrom b s next .found))) (sym (did .asked))
-      ∙ ap (λ (m : ℕ). step .question then λ _. checkpointsQuestion (b .mark) false (take m (numbersFrom b s next .found)) (count - (r + 1)) (drop m (numbersFrom b s next .found))) width
+      ∙ ap
+      (λ (q : ℕ). q then λ _. checkpointsQuestion (b .mark) false (take (length (take w row)) (numbersFrom b s next .found)) (count - (r + 1)) (drop (length (take w row)) (numbersFrom b s next .found)))
+      (sym (did .asked))
+      ∙ ap
+      (λ (m : ℕ). step .question then λ _. checkpointsQuestion (b .mark) false (take m (numbersFrom b s next .found)) (count - (r + 1)) (drop m (numbersFrom b s next .found))) width
 
   pub passed-refused : (step .question ≡ 0 → ⊥) → CheckpointsChecked b w count s at step
   passed-refused z = record { asked = sym (turn ∙ then-refused _ _ z); rest = λ e. absurd (z e) }
 
-  pub passed-more : step .question ≡ 0 → length read ≡ w → (row′ : List ℕ) → row′ ≡ read ++ drop w row → Passed b w count s at (step .next) (r + 1) row′
+  pub passed-more : step .question ≡ 0 → length read ≡ w → (row′ : List ℕ) → row′ ≡ read ++ drop w row → Passed b w count s at (step .next)
+      (r + 1) row′
   passed-more z wide row′ e =
       let go : numbersFrom b s (step .next) ≡ after w (numbersFrom b s next) = did .rest z ∙ ap (λ (m : ℕ). after m (numbersFrom b s next)) width in
       let now : take w row′ ≡ take w (numbersFrom b s next .found) =
@@ -93,6 +99,7 @@ passed-ended b w count s at next r row inv h =
     let all : r ≡ count = omega (arith, inv .within) in
     let none : count - r ≡ 0 = omega arith in
     record {
-      asked = sym (inv .asked ∙ ap (λ (m : ℕ). checkpointsQuestion (b .mark) (eqb r 0) (take w row) m (numbersFrom b s next .found)) none ∙ checkpoints-none (b .mark) (eqb r 0) (take w row) (numbersFrom b s next .found));
+      asked = sym
+          (inv .asked ∙ ap (λ (m : ℕ). checkpointsQuestion (b .mark) (eqb r 0) (take w row) m (numbersFrom b s next .found)) none ∙ checkpoints-none (b .mark) (eqb r 0) (take w row) (numbersFrom b s next .found));
       rest = λ _. inv .rest ∙ ap (λ (m : ℕ). after (m * w) (numbersFrom b s at)) all;
     }

@@ -88,7 +88,8 @@ module _ (g l mark : ℕ) (oldest : Bool) (row₀ s : List ℕ) (at next k : ℕ
         ∙ counters-cons mark oldest (getD row k 0) v (drop 1 (inv .left)) (numbersAt g l s after .found)
 
     -- the counter fails a question
-    pub sofar-refused : (q : ℕ) → q ≡ counterQuestion mark oldest (getD row k 0) v → (q ≡ 0 → ⊥) → q ≡ countersQuestion mark oldest row₀ (numbersAt g l s at .found)
+    pub sofar-refused : (q : ℕ) → q ≡ counterQuestion mark oldest (getD row k 0) v → (q ≡ 0 → ⊥) → q ≡ countersQuestion mark oldest row₀
+        (numbersAt g l s at .found)
     sofar-refused q e z = e ∙ sym (step ∙ then-refused _ _ (λ w. z (e ∙ w)))
 
     -- it passes
@@ -122,13 +123,16 @@ sofar-ended b oldest row₀ s at next k row inv h =
     let all : row₀ ≡ inv .old = inv .begun ∙ ap (λ (xs : List ℕ). inv .old ++ xs) none ∙ append-nil (inv .old) in
     let long : length (inv .done) ≡ length row₀ = inv .passed ∙ sym (inv .replaced) ∙ ap length (sym all) in
     record {
-      asked = sym (inv .asked ∙ ap (λ (xs : List ℕ). countersQuestion (b .mark) oldest xs (numbersFrom b s next .found)) none ∙ counters-none (b .mark) oldest (numbersFrom b s next .found));
+      asked = sym
+          (inv .asked ∙ ap (λ (xs : List ℕ). countersQuestion (b .mark) oldest xs (numbersFrom b s next .found)) none ∙ counters-none (b .mark) oldest (numbersFrom b s next .found));
       rest = λ _. sym (ap (after (length row₀)) (inv .found) ∙ drop-prepend (inv .done) (numbersFrom b s next) (length row₀) long);
       read = λ _. inv .present ∙ ap (λ (xs : List ℕ). inv .done ++ xs) none ∙ append-nil (inv .done)
-          ∙ sym (ap (λ (ns : Numbers). take (length row₀) (ns .found)) (inv .found) ∙ take-at (inv .done) (numbersFrom b s next .found) (length row₀) long);
+          ∙ sym
+          (ap (λ (ns : Numbers). take (length row₀) (ns .found)) (inv .found) ∙ take-at (inv .done) (numbersFrom b s next .found) (length row₀) long);
     }
 
 -- a question fails: nothing is said of the row
-pub refused-counters : (b : Bounds) (oldest : Bool) (row₀ s : List ℕ) (at next q : ℕ) (row : List ℕ) → q ≡ countersQuestion (b .mark) oldest row₀ (numbersFrom b s at .found) → (q ≡ 0 → ⊥)
+pub refused-counters : (b : Bounds) (oldest : Bool) (row₀ s : List ℕ) (at next q : ℕ) (row : List ℕ) → q ≡ countersQuestion
+    (b .mark) oldest row₀ (numbersFrom b s at .found) → (q ≡ 0 → ⊥)
     → CountersChecked b oldest row₀ s at (record { question = q; next = next }) row
 refused-counters b oldest row₀ s at next q row e z = record { asked = e; rest = λ w. absurd (z w); read = λ w. absurd (z w) }

@@ -65,7 +65,8 @@ module _ (s : List ℕ) (good : bookQuestion mark (eqb (bookNumbersFrom s 0 .sto
     found = ap (λ (ns : Numbers). ns .found) (numbers-more groups largest s 0 n next r)
 
     -- the rows, and zeros after them, are the book's table
-    module _ (t₀ t₁ t₂ : List ℕ) (rows : ℕ) (long : length t₀ ≡ 4096) (few : rows ≤ 256) (cleared : t₂ ≡ sets t₁ (rows * 16) (replicate (4096 - rows * 16) 0)) where
+    module _ (t₀ t₁ t₂ : List ℕ) (rows : ℕ) (long : length t₀ ≡ 4096) (few : rows ≤ 256)
+        (cleared : t₂ ≡ sets t₁ (rows * 16) (replicate (4096 - rows * 16) 0)) where
       pub sent-filled : length (rowsFrom (take (n - 1)) 0 (processesIn n (width n) (bookNumbersFrom s next .found))) ≡ rows * 16
           → t₁ ≡ sets t₀ 0 (rowsFrom (take (n - 1)) 0 (processesIn n (width n) (bookNumbersFrom s next .found)))
           → t₂ ≡ sentTable (bookIn (bookNumbersFrom s 0 .found))

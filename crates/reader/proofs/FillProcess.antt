@@ -36,7 +36,8 @@ rows-begun half n j first count vs table =
     let none : count - 0 ≡ count = omega arith in
     record { done = []; long = refl; present = refl; all = rw none }
 
-module _ (half : List ℕ → List ℕ) (n j first count r : ℕ) (whole rest table₀ table : List ℕ) (inv : Rows half n j first count r whole rest table₀ table) where
+module _ (half : List ℕ → List ℕ) (n j first count r : ℕ) (whole rest table₀ table : List ℕ)
+    (inv : Rows half n j first count r whole rest table₀ table) where
   pub rows-length : length table ≡ length table₀
   rows-length = ap length (inv .present) ∙ length-sets table₀ (first * 16) (inv .done)
 
@@ -92,7 +93,9 @@ module _ (s : List ℕ) (at n j first count : ℕ) (sent₀ received₀ sent rec
   filled-sent = rows-length (take (n - 1)) n j first count r (bookNumbersFrom s at .found) (bookNumbersFrom s next .found) sent₀ sent (inv .sentRows)
 
   pub filled-received : length received ≡ length received₀
-  filled-received = rows-length (drop (n - 1)) n j first count r (bookNumbersFrom s at .found) (bookNumbersFrom s next .found) received₀ received (inv .receivedRows)
+  filled-received =
+      rows-length (drop (n - 1)) n j first count r (bookNumbersFrom s at .found)
+      (bookNumbersFrom s next .found) received₀ received (inv .receivedRows)
 
   module _ (h : r < count) (most : n ≤ 16) where
     room : (count - (r + 1)) * width n + width n ≤ length (bookNumbersFrom s next .found)
@@ -113,7 +116,8 @@ module _ (s : List ℕ) (at n j first count : ℕ) (sent₀ received₀ sent rec
         on : bookNumbersFrom s last ≡ after (width n) (bookNumbersFrom s next)
         on =
             let both : n - 1 + (n - 1) ≡ width n = omega arith in
-            went ∙ ap (after (n - 1)) passed ∙ after-after (n - 1) (n - 1) (bookNumbersFrom s next) ∙ ap (λ (k : ℕ). after k (bookNumbersFrom s next)) both
+            went ∙ ap (after (n - 1)) passed ∙ after-after (n - 1) (n - 1) (bookNumbersFrom s next) ∙ ap
+            (λ (k : ℕ). after k (bookNumbersFrom s next)) both
 
         left : bookNumbersFrom s last .found ≡ drop (width n) (bookNumbersFrom s next .found)
         left = ap (λ (ns : Numbers). ns .found) on
@@ -124,15 +128,22 @@ module _ (s : List ℕ) (at n j first count : ℕ) (sent₀ received₀ sent rec
             let sentHalf : take (n - 1) (take (width n) ws) ≡ take (n - 1) ws = take-take (n - 1) (width n) ws (omega arith) in
             let both : width n ≡ n - 1 + (n - 1) = omega arith in
             let receivedHalf : drop (n - 1) (take (width n) ws) ≡ take (n - 1) (bookNumbersFrom s middle .found) =
-            ap (λ (k : ℕ). drop (n - 1) (take k ws)) both ∙ drop-take (n - 1) (n - 1) ws ∙ ap (λ (ns : Numbers). take (n - 1) (ns .found)) (sym passed) in
+            ap (λ (k : ℕ). drop (n - 1) (take k ws)) both ∙ drop-take (n - 1) (n - 1) ws ∙ ap (λ (ns : Numbers). take (n - 1) (ns .found))
+            (sym passed) in
             let short : length (take (n - 1) ws) < 16 = rw (length-take-le (n - 1) ws sent-enough) (omega arith) in
-            let short′ : length (take (n - 1) (bookNumbersFrom s middle .found)) < 16 = rw (length-take-le (n - 1) (bookNumbersFrom s middle .found) received-enough) (omega arith) in
+            let short′ : length (take (n - 1) (bookNumbersFrom s middle .found)) < 16 = rw
+            (length-take-le (n - 1) (bookNumbersFrom s middle .found) received-enough) (omega arith) in
             let places : r * width n + width n ≡ (r + 1) * width n = rw (add-one r) (sym (suc-mul r (width n))) in
             record {
               within = omega arith;
-              sentRows = rw left (rows-more (take (n - 1)) n j first count r (bookNumbersFrom s at .found) ws sent₀ sent (inv .sentRows) (take (n - 1) ws) sent′ h sentHalf short put);
-              receivedRows = rw left (rows-more (drop (n - 1)) n j first count r (bookNumbersFrom s at .found) ws received₀ received (inv .receivedRows) (take (n - 1) (bookNumbersFrom s middle .found)) received′ h receivedHalf short′ put′);
-              rest = on ∙ ap (after (width n)) (inv .rest) ∙ after-after (r * width n) (width n) (bookNumbersFrom s at) ∙ ap (λ (k : ℕ). after k (bookNumbersFrom s at)) places;
+              sentRows =
+                  rw left
+                  (rows-more (take (n - 1)) n j first count r (bookNumbersFrom s at .found) ws sent₀ sent (inv .sentRows) (take (n - 1) ws) sent′ h sentHalf short put);
+              receivedRows =
+                  rw left
+                  (rows-more (drop (n - 1)) n j first count r (bookNumbersFrom s at .found) ws received₀ received (inv .receivedRows) (take (n - 1) (bookNumbersFrom s middle .found)) received′ h receivedHalf short′ put′);
+              rest = on ∙ ap (after (width n)) (inv .rest) ∙ after-after (r * width n) (width n) (bookNumbersFrom s at) ∙ ap
+                  (λ (k : ℕ). after k (bookNumbersFrom s at)) places;
               enough = rw left (simp length-drop (omega (arith, room)));
             }
 
@@ -141,7 +152,12 @@ module _ (s : List ℕ) (at n j first count : ℕ) (sent₀ received₀ sent rec
     filled-rest = let all : r ≡ count = omega (arith, inv .within) in inv .rest ∙ ap (λ (k : ℕ). after (k * width n) (bookNumbersFrom s at)) all
 
     pub filled-sent-rows : sent ≡ sets sent₀ (first * 16) (processRows (take (n - 1)) j (checkpointsIn count (width n) (bookNumbersFrom s at .found)))
-    filled-sent-rows = rows-ended (take (n - 1)) n j first count r (bookNumbersFrom s at .found) (bookNumbersFrom s next .found) sent₀ sent (inv .sentRows) h
+    filled-sent-rows =
+        rows-ended (take (n - 1)) n j first count r (bookNumbersFrom s at .found) (bookNumbersFrom s next .found) sent₀ sent
+        (inv .sentRows) h
 
-    pub filled-received-rows : received ≡ sets received₀ (first * 16) (processRows (drop (n - 1)) j (checkpointsIn count (width n) (bookNumbersFrom s at .found)))
-    filled-received-rows = rows-ended (drop (n - 1)) n j first count r (bookNumbersFrom s at .found) (bookNumbersFrom s next .found) received₀ received (inv .receivedRows) h
+    pub filled-received-rows : received ≡ sets received₀ (first * 16)
+        (processRows (drop (n - 1)) j (checkpointsIn count (width n) (bookNumbersFrom s at .found)))
+    filled-received-rows =
+        rows-ended (drop (n - 1)) n j first count r (bookNumbersFrom s at .found)
+        (bookNumbersFrom s next .found) received₀ received (inv .receivedRows) h

@@ -43,7 +43,8 @@ received-short : (n : ℕ) → n ≤ 16 → (cs : List ℕ) → length cs ≡ wi
 received-short n h cs e = rw (length-drop (n - 1) cs) (omega arith)
 
 rows-next : (half : List ℕ → List ℕ) (j m w c : ℕ) (vs : List ℕ)
-    → rowsFrom half j (processesIn (suc m) w (c ∷ vs)) ≡ processRows half j (checkpointsIn c w vs) ++ rowsFrom half (suc j) (processesIn m w (drop (c * w) vs))
+    → rowsFrom half j (processesIn (suc m) w (c ∷ vs)) ≡ processRows half j (checkpointsIn c w vs) ++ rowsFrom half (suc j)
+    (processesIn m w (drop (c * w) vs))
 unfolding processesIn rowsFrom
 rows-next half j m w c vs = refl
 
@@ -65,15 +66,19 @@ module _ (half : List ℕ → List ℕ) (n first j : ℕ) (whole rest table₀ t
   rows-length : length table ≡ length table₀
   rows-length = ap length (inv .present) ∙ length-sets table₀ 0 (inv .done)
 
-  rows-more : (c : ℕ) (vs table′ : List ℕ) → j < n → rest ≡ c ∷ vs → ((cs : List ℕ) → length cs ≡ width n → length (half cs) < 16) → c * width n ≤ length vs
-      → table′ ≡ sets table (first * 16) (processRows half j (checkpointsIn c (width n) vs)) → Rows half n (first + c) (j + 1) whole (drop (c * width n) vs) table₀ table′
+  rows-more : (c : ℕ) (vs table′ : List ℕ) → j < n → rest ≡ c ∷ vs → ((cs : List ℕ) → length cs ≡ width n → length (half cs) < 16)
+      → c * width n ≤ length vs
+      → table′ ≡ sets table (first * 16) (processRows half j (checkpointsIn c (width n) vs)) → Rows half n (first + c) (j + 1) whole
+      (drop (c * width n) vs) table₀ table′
   rows-more c vs table′ h e short room put =
       let rows : List ℕ = processRows half j (checkpointsIn c (width n) vs) in
       let more : n - j ≡ suc (n - (j + 1)) = omega arith in
       record {
         done = inv .done ++ rows;
-        long = length-append (inv .done) rows ∙ ap₂ (λ (a b : ℕ). a + b) (inv .long) (length-rows half (width n) short j c vs room) ∙ sym (add-mul first c 16);
-        present = put ∙ ap₂ (λ (l : List ℕ) (k : ℕ). sets l k rows) (inv .present) (sym (inv .long) ∙ omega arith) ∙ sets-append (inv .done) rows table₀ 0;
+        long = length-append (inv .done) rows ∙ ap₂ (λ (a b : ℕ). a + b) (inv .long) (length-rows half (width n) short j c vs room) ∙ sym
+            (add-mul first c 16);
+        present = put ∙ ap₂ (λ (l : List ℕ) (k : ℕ). sets l k rows) (inv .present) (sym (inv .long) ∙ omega arith) ∙ sets-append
+            (inv .done) rows table₀ 0;
         all = inv .all ∙ ap₂ (λ (m : ℕ) (l : List ℕ). inv .done ++ rowsFrom half j (processesIn m (width n) l)) more e
             ∙ ap (λ (l : List ℕ). inv .done ++ l) (rows-next half j (n - (j + 1)) (width n) c vs
             ∙ ap (λ (k : ℕ). rows ++ rowsFrom half k (processesIn (n - (j + 1)) (width n) (drop (c * width n) vs))) (sym (add-one j)))
@@ -120,7 +125,9 @@ module _ (s : List ℕ) (at n : ℕ) (sent₀ received₀ sent received : List �
   filled-sent = rows-length (take (n - 1)) n first j (bookNumbersFrom s at .found) (bookNumbersFrom s next .found) sent₀ sent (inv .sentRows)
 
   pub filled-received : length received ≡ length received₀
-  filled-received = rows-length (drop (n - 1)) n first j (bookNumbersFrom s at .found) (bookNumbersFrom s next .found) received₀ received (inv .receivedRows)
+  filled-received =
+      rows-length (drop (n - 1)) n first j (bookNumbersFrom s at .found) (bookNumbersFrom s next .found) received₀ received
+      (inv .receivedRows)
 
   module _ (h : j < n) where
     turn : processesQuestion mark n (suc (n - (j + 1))) first (eqb (bookNumbersFrom s next .stop) (length s)) (bookNumbersFrom s next .found) ≡ 0
@@ -158,7 +165,12 @@ module _ (s : List ℕ) (at n : ℕ) (sent₀ received₀ sent received : List �
           record {
             within = omega arith;
             few = filled-count .1;
-            sentRows = rw left (rows-more (take (n - 1)) n first j (bookNumbersFrom s at .found) (bookNumbersFrom s next .found) sent₀ sent (inv .sentRows) c (bookNumbersFrom s after .found) sent′ h found (sent-short n most) filled-enough put);
-            receivedRows = rw left (rows-more (drop (n - 1)) n first j (bookNumbersFrom s at .found) (bookNumbersFrom s next .found) received₀ received (inv .receivedRows) c (bookNumbersFrom s after .found) received′ h found (received-short n most) filled-enough put′);
-            asked = ap (λ (ns : Numbers). processesQuestion mark n (n - (j + 1)) (first + c) (eqb (ns .stop) (length s)) (ns .found)) went ∙ passed .later;
+            sentRows =
+                rw left
+                (rows-more (take (n - 1)) n first j (bookNumbersFrom s at .found) (bookNumbersFrom s next .found) sent₀ sent (inv .sentRows) c (bookNumbersFrom s after .found) sent′ h found (sent-short n most) filled-enough put);
+            receivedRows =
+                rw left
+                (rows-more (drop (n - 1)) n first j (bookNumbersFrom s at .found) (bookNumbersFrom s next .found) received₀ received (inv .receivedRows) c (bookNumbersFrom s after .found) received′ h found (received-short n most) filled-enough put′);
+            asked = ap (λ (ns : Numbers). processesQuestion mark n (n - (j + 1)) (first + c) (eqb (ns .stop) (length s)) (ns .found)) went
+                ∙ passed .later;
           }

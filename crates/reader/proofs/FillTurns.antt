@@ -45,7 +45,8 @@ module _ (s : List ℕ) (at : ℕ) (table₀ : List ℕ) (from to : ℕ) (table 
   pub put-more : (v after : ℕ) → i < to → readNumber groups largest s next ≡ Number v after → Put s at table₀ from to (set table i v) after (i + 1)
   put-more v after h r =
       let go = numbers-more groups largest s next v after r in
-      let one : length (bookNumbersFrom s next .found) ≡ suc (length (bookNumbersFrom s after .found)) = ap (λ (ns : Numbers). length (ns .found)) go in
+      let one : length (bookNumbersFrom s next .found) ≡ suc (length (bookNumbersFrom s after .found)) = ap
+      (λ (ns : Numbers). length (ns .found)) go in
       record {
         done = inv .done ++ (v ∷ []);
         within = omega arith;
@@ -66,7 +67,8 @@ module _ (s : List ℕ) (at : ℕ) (table₀ : List ℕ) (from to : ℕ) (table 
     pub put-ended : table ≡ sets table₀ from (take (to - from) (bookNumbersFrom s at .found))
     put-ended =
         inv .present
-        ∙ ap (sets table₀ from) (sym (ap (λ (ns : Numbers). take (to - from) (ns .found)) (inv .found) ∙ take-at (inv .done) (bookNumbersFrom s next .found) (to - from) count))
+        ∙ ap (sets table₀ from)
+        (sym (ap (λ (ns : Numbers). take (to - from) (ns .found)) (inv .found) ∙ take-at (inv .done) (bookNumbersFrom s next .found) (to - from) count))
 
 -- the table has zeros from one entry up to another
 pub record Cleared (table₀ : List ℕ) (from to : ℕ) (table : List ℕ) (i : ℕ) : Type 0 where

@@ -126,18 +126,22 @@ nothing-left b s next e =
     let none = numbers-none (b .groups) (b .limit) s next (read-past (b .groups) (b .limit) s next (omega arith)) in
     ap (λ (ns : Numbers). nothingFollows (eqb (ns .stop) (length s)) (ns .found)) none ∙ eq-eqb next (length s) e
 
-something-left : (b : Bounds) (s : List ℕ) (next : ℕ) → (next ≡ length s → ⊥) → nothingFollows (wholeFrom b s next) (numbersFrom b s next .found) ≡ false
+something-left : (b : Bounds) (s : List ℕ) (next : ℕ) → (next ≡ length s → ⊥) → nothingFollows (wholeFrom b s next)
+    (numbersFrom b s next .found) ≡ false
 something-left b s next z = go (readNumber (b .groups) (b .limit) s next) refl
   where
     go : (r : Numeral) → readNumber (b .groups) (b .limit) s next ≡ r → nothingFollows (wholeFrom b s next) (numbersFrom b s next .found) ≡ false
-    go (Number v after) e = ap (λ (ns : Numbers). nothingFollows (eqb (ns .stop) (length s)) (ns .found)) (numbers-more (b .groups) (b .limit) s next v after e)
-    go Refused e = ap (λ (ns : Numbers). nothingFollows (eqb (ns .stop) (length s)) (ns .found)) (numbers-none (b .groups) (b .limit) s next e) ∙ ne-eqb next (length s) z
+    go (Number v after) e = ap (λ (ns : Numbers). nothingFollows (eqb (ns .stop) (length s)) (ns .found))
+        (numbers-more (b .groups) (b .limit) s next v after e)
+    go Refused e = ap (λ (ns : Numbers). nothingFollows (eqb (ns .stop) (length s)) (ns .found))
+        (numbers-none (b .groups) (b .limit) s next e) ∙ ne-eqb next (length s) z
 
 module _ (b : Bounds) (n : ℕ) (s : List ℕ) (at : ℕ) (counts : List ℕ) (sum next j : ℕ) (inv : Met b n s at counts sum next j) (h : n ≤ j) where
   last : n - j ≡ 0
   last = omega arith
 
-  end : processesQuestion (b .mark) n n 0 (wholeFrom b s at) (numbersFrom b s at .found) ≡ ask 9 (nothingFollows (wholeFrom b s next) (numbersFrom b s next .found))
+  end : processesQuestion (b .mark) n n 0 (wholeFrom b s at) (numbersFrom b s at .found) ≡ ask 9
+      (nothingFollows (wholeFrom b s next) (numbersFrom b s next .found))
   end =
       inv .asked ∙ ap (λ (m : ℕ). processesQuestion (b .mark) n m sum (wholeFrom b s next) (numbersFrom b s next .found)) last
       ∙ processes-none (b .mark) n sum (wholeFrom b s next) (numbersFrom b s next .found)
@@ -148,13 +152,16 @@ module _ (b : Bounds) (n : ℕ) (s : List ℕ) (at : ℕ) (counts : List ℕ) (s
   pub met-ended : next ≡ length s → processesQuestion (b .mark) n n 0 (wholeFrom b s at) (numbersFrom b s at .found) ≡ 0
   met-ended e = end ∙ ap (ask 9) (nothing-left b s next e)
 
-  pub met-shape : _≡_ {A = Shape} (record { n = n; counts = counts }) (shapeOf (record { n = n; processes = processesIn n (width n) (numbersFrom b s at .found) }))
+  pub met-shape : _≡_ {A = Shape} (record { n = n; counts = counts })
+      (shapeOf (record { n = n; processes = processesIn n (width n) (numbersFrom b s at .found) }))
   met-shape =
       let all : countsOf (processesIn n (width n) (numbersFrom b s at .found)) ≡ inv .done =
       inv .listed ∙ ap (λ (m : ℕ). inv .done ++ countsOf (processesIn m (width n) (numbersFrom b s next .found))) last
       ∙ ap (λ (l : List ℕ). inv .done ++ l) (counts-none (width n) (numbersFrom b s next .found)) ∙ append-nil (inv .done) in
-      let here : counts ≡ inv .done ++ replicate (16 - length (inv .done)) 0 = inv .present ∙ ap (λ (m : ℕ). inv .done ++ replicate (16 - m) 0) (sym (inv .passed)) in
-      let e : counts ≡ countsOf (processesIn n (width n) (numbersFrom b s at .found)) ++ replicate (16 - length (countsOf (processesIn n (width n) (numbersFrom b s at .found)))) 0 =
+      let here : counts ≡ inv .done ++ replicate (16 - length (inv .done)) 0 = inv .present ∙ ap
+      (λ (m : ℕ). inv .done ++ replicate (16 - m) 0) (sym (inv .passed)) in
+      let e : counts ≡ countsOf (processesIn n (width n) (numbersFrom b s at .found)) ++ replicate
+      (16 - length (countsOf (processesIn n (width n) (numbersFrom b s at .found)))) 0 =
       here ∙ ap (λ (l : List ℕ). l ++ replicate (16 - length l) 0) (sym all) in
       λ i. record { n = n; counts = e i }
 
@@ -164,7 +171,8 @@ checked-refused q whole z shape e ne ez =
     let kept : z ≡ _ = ez ∙ sym (kept-refused whole noShape shape (λ w. ne (e ∙ w))) in
     λ i. record { question = e i; shape = kept i }
 
-pub checked-passed : (whole : ℕ) (z shape : Shape) → whole ≡ 0 → z ≡ shape → _≡_ {A = Checked} (record { question = 0; shape = z }) (checked whole shape)
+pub checked-passed : (whole : ℕ) (z shape : Shape) → whole ≡ 0 → z ≡ shape → _≡_ {A = Checked} (record { question = 0; shape = z })
+    (checked whole shape)
 checked-passed whole z shape e ez =
     let q : 0 ≡ whole = sym e in
     let kept : z ≡ _ = ez ∙ sym (kept-passed whole noShape shape e) in

@@ -37,7 +37,8 @@ module _ (bytes sent received : List ℕ) where
   unfolding readQuestion
   read-received h e k = rw (le-leb (length bytes) 65536 h, eq-eqb (length sent) 4096 e, ne-eqb (length received) 4096 k)
 
-  pub read-book : length bytes ≤ 65536 → length sent ≡ 4096 → length received ≡ 4096 → readQuestion bytes sent received ≡ bookQuestion mark (ended bytes) (numbersOf bytes)
+  pub read-book : length bytes ≤ 65536 → length sent ≡ 4096 → length received ≡ 4096 → readQuestion bytes sent received ≡ bookQuestion mark
+      (ended bytes) (numbersOf bytes)
   unfolding readQuestion
   read-book h e k = rw (le-leb (length bytes) 65536 h, eq-eqb (length sent) 4096 e, eq-eqb (length received) 4096 k)
 
@@ -57,7 +58,8 @@ module _ (bytes sent received : List ℕ) where
   check-refused q shape e z es =
       (sym e, es ∙ sym (kept-refused (readQuestion bytes sent received) noShape (shapeOf (bookRead bytes)) (λ w. z (sym e ∙ w))))
 
-  pub check-along : (r : Checked) → readQuestion bytes sent received ≡ bookQuestion mark (ended bytes) (numbersOf bytes) → r ≡ bookChecked bounds01 bytes
+  pub check-along : (r : Checked) → readQuestion bytes sent received ≡ bookQuestion mark (ended bytes) (numbersOf bytes)
+      → r ≡ bookChecked bounds01 bytes
       → (r .question ≡ readQuestion bytes sent received) × (r .shape ≡ shapeRead bytes sent received)
   unfolding shapeRead
   check-along r e er = (

@@ -10,24 +10,33 @@ no-shape-requires c κs = search needs
 
 returns : tie.Need-returns
 returns c =
-    let a = c .before .before .before .before .before .args in
-    check-refused (a .bytes .now) (a .sent .now) (a .received .now) 1 _ (read-long (a .bytes .now) (a .sent .now) (a .received .now) (c .before .if1 .taken)) (λ z. omega arith) (c .no-shape .ensures)
+    let at-start = c .before .before .before .before .before in
+    let a = at-start .args in
+    check-refused (a .bytes .now) (a .sent .now) (a .received .now) 1 _
+    (read-long (a .bytes .now) (a .sent .now) (a .received .now) (c .before .if1 .taken)) (λ z. omega arith) (c .no-shape .ensures)
 
 no-shape-requires-2 : tie.Need-no-shape-requires-2
 no-shape-requires-2 c κs = search needs
 
 returns-2 : tie.Need-returns-2
 returns-2 c =
-    let a = c .before .before .before .before .before .before .args in
-    check-refused (a .bytes .now) (a .sent .now) (a .received .now) 2 _ (read-sent (a .bytes .now) (a .sent .now) (a .received .now) (c .before .before .if1 .left) (c .before .if2 .taken)) (λ z. omega arith) (c .no-shape2 .ensures)
+    let at-start = c .before .before .before .before .before .before in
+    let a = at-start .args in
+    check-refused (a .bytes .now) (a .sent .now) (a .received .now) 2 _
+    (read-sent (a .bytes .now) (a .sent .now) (a .received .now) (c .before .before .if1 .left) (c .before .if2 .taken)) (λ z. omega arith)
+    (c .no-shape2 .ensures)
 
 no-shape-requires-3 : tie.Need-no-shape-requires-3
 no-shape-requires-3 c κs = search needs
 
 returns-3 : tie.Need-returns-3
 returns-3 c =
-    let a = c .before .before .before .before .before .before .before .args in
-    check-refused (a .bytes .now) (a .sent .now) (a .received .now) 2 _ (read-received (a .bytes .now) (a .sent .now) (a .received .now) (c .before .before .before .if1 .left) (c .before .before .if2 .left) (c .before .if3 .taken)) (λ z. omega arith)
+    let at-if1 = c .before .before .before in
+    let at-start = at-if1 .before .before .before .before in
+    let a = at-start .args in
+    check-refused (a .bytes .now) (a .sent .now) (a .received .now) 2 _
+    (read-received (a .bytes .now) (a .sent .now) (a .received .now) (at-if1 .if1 .left) (c .before .before .if2 .left) (c .before .if3 .taken))
+    (λ z. omega arith)
     (c .no-shape3 .ensures)
 
 check-book-requires : tie.Need-check-book-requires
@@ -35,8 +44,12 @@ check-book-requires c κs = search needs
 
 returns-4 : tie.Need-returns-4
 returns-4 c =
-    let a = c .before .before .before .before .before .before .before .args in
-    check-along (a .bytes .now) (a .sent .now) (a .received .now) _ (read-book (a .bytes .now) (a .sent .now) (a .received .now) (c .before .before .before .if1 .left) (c .before .before .if2 .left) (c .before .if3 .left)) (c .check-book .ensures)
+    let at-if1 = c .before .before .before in
+    let at-start = at-if1 .before .before .before .before in
+    let a = at-start .args in
+    check-along (a .bytes .now) (a .sent .now) (a .received .now) _
+    (read-book (a .bytes .now) (a .sent .now) (a .received .now) (at-if1 .if1 .left) (c .before .before .if2 .left) (c .before .if3 .left))
+    (c .check-book .ensures)
 
 pub check-spec : {M : Type 1} → statement M
 check-spec =

@@ -21,14 +21,19 @@ no-shape-requires c κs = search needs
 
 returns : tie.Need-returns
 returns c =
-    checked-refused _ _ _ _ (book-short _ _ (sym (c .before .before .before .read-number .ensures) ∙ c .before .enum-told .given .1)) (λ z. omega arith) (c .no-shape .ensures)
+    let at-read-number = c .before .before .before in
+    checked-refused _ _ _ _ (book-short _ _ (sym (at-read-number .read-number .ensures) ∙ c .before .enum-told .given .1))
+    (λ z. omega arith) (c .no-shape .ensures)
 
 no-shape-requires-2 : tie.Need-no-shape-requires-2
 no-shape-requires-2 c κs = search needs
 
 returns-2 : tie.Need-returns-2
 returns-2 c =
-    checked-refused _ _ _ _ (book-none _ _ _ _ (sym (c .before .before .before .before .before .read-number .ensures) ∙ c .before .before .before .n .given .1) (c .before .if1 .taken)) (λ z. omega arith)
+    let at-n = c .before .before .before in
+    let at-read-number = at-n .before .before in
+    checked-refused _ _ _ _ (book-none _ _ _ _ (sym (at-read-number .read-number .ensures) ∙ at-n .n .given .1) (c .before .if1 .taken))
+    (λ z. omega arith)
     (c .no-shape2 .ensures)
 
 no-shape-requires-3 : tie.Need-no-shape-requires-3
@@ -36,8 +41,11 @@ no-shape-requires-3 c κs = search needs
 
 returns-3 : tie.Need-returns-3
 returns-3 c =
+    let at-n = c .before .before .before .before in
+    let at-read-number = at-n .before .before in
     checked-refused _ _ _ _
-    (book-many _ _ _ _ (sym (c .before .before .before .before .before .before .read-number .ensures) ∙ c .before .before .before .before .n .given .1) (c .before .before .if1 .left) (c .before .if2 .taken)) (λ z. omega arith)
+    (book-many _ _ _ _ (sym (at-read-number .read-number .ensures) ∙ at-n .n .given .1) (c .before .before .if1 .left) (c .before .if2 .taken))
+    (λ z. omega arith)
     (c .no-shape3 .ensures)
 
 check-processes-requires : tie.Need-check-processes-requires
@@ -45,8 +53,10 @@ check-processes-requires c κs = search needs
 
 returns-4 : tie.Need-returns-4
 returns-4 c =
+    let at-n = c .before .before .before .before in
+    let at-read-number = at-n .before .before in
     c .check-processes .ensures
-    ∙ book-checked _ _ _ _ (sym (c .before .before .before .before .before .before .read-number .ensures) ∙ c .before .before .before .before .n .given .1) (c .before .before .if1 .left) (c .before .if2 .left)
+    ∙ book-checked _ _ _ _ (sym (at-read-number .read-number .ensures) ∙ at-n .n .given .1) (c .before .before .if1 .left) (c .before .if2 .left)
 
 pub check-book-spec : {M : Type 1} → statement M
 check-book-spec =

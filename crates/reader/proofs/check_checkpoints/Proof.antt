@@ -28,7 +28,11 @@ check-counters-requires c κs = search needs
 
 returns : tie.Need-returns Inv-loop μ-loop
 returns c =
-    passed-refused _ _ _ _ _ _ _ _ (c .before .before .before .before .before .before .loop .inv) (omega arith) (c .before .before .before .before .before .loop-test .taken) _ _ (c .before .before .before .check-counters .ensures) (c .if1 .taken)
+    let at-check-counters = c .before .before .before in
+    let at-loop-test = at-check-counters .before .before in
+    let at-loop = at-loop-test .before in
+    passed-refused _ _ _ _ _ _ _ _ (at-loop .loop .inv) (omega arith) (at-loop-test .loop-test .taken) _ _
+    (at-check-counters .check-counters .ensures) (c .if1 .taken)
 
 add-r : tie.Need-add-r Inv-loop μ-loop
 add-r c = omega arith
@@ -38,8 +42,12 @@ loop-less c = omega arith
 
 loop-again : tie.Need-loop-again Inv-loop μ-loop
 loop-again c =
-    passed-more _ _ _ _ _ _ _ _ (c .before .before .before .before .before .before .loop .inv) (omega arith) (c .before .before .before .before .before .loop-test .taken) _ _ (c .before .before .before .check-counters .ensures) (c .if1 .left)
-    (c .before .before .before .check-counters .kept .1 .1 .1 .1 .0 ∙ length-take-le _ _ (omega arith)) _ refl
+    let at-check-counters = c .before .before .before in
+    let at-loop-test = at-check-counters .before .before in
+    let at-loop = at-loop-test .before in
+    passed-more _ _ _ _ _ _ _ _ (at-loop .loop .inv) (omega arith) (at-loop-test .loop-test .taken) _ _
+    (at-check-counters .check-counters .ensures) (c .if1 .left)
+    (at-check-counters .check-counters .kept .1 .1 .1 .1 .0 ∙ length-take-le _ _ (omega arith)) _ refl
 
 returns-2 : tie.Need-returns-2 Inv-loop μ-loop
 returns-2 c = passed-ended _ _ _ _ _ _ _ _ (c .before .loop .inv) (c .loop-test .left)

@@ -51,10 +51,15 @@ same-length-2 c = sofar-length _ _ _ _ _ _ _ _ _ _ (c .before .before .before .b
 
 returns-2 : tie.Need-returns-2 Inv-loop μ-loop
 returns-2 c =
-    let a = c .before .before .before .before .before .before .before .before .before .before .before .args in
+    let at-v = c .before .before .before .before in
+    let at-read-number = at-v .before .before in
+    let at-loop-test = at-read-number .before in
+    let at-loop = at-loop-test .before in
+    let at-start = at-loop .before .before .before in
+    let a = at-start .args in
     refused-counters (a .bounds) (a .oldest) (a .row .now) (a .s .now) (a .at) _ _ _
-    (sofar-refused _ _ _ _ _ _ _ _ _ _ (c .before .before .before .before .before .before .before .before .loop .inv) _ _ (c .before .before .before .before .before .before .before .loop-test .taken)
-    (sym (c .before .before .before .before .before .before .read-number .ensures) ∙ c .before .before .before .before .v .given .1) _ (c .before .counter-question .ensures) (c .if1 .taken))
+    (sofar-refused _ _ _ _ _ _ _ _ _ _ (at-loop .loop .inv) _ _ (at-loop-test .loop-test .taken)
+    (sym (at-read-number .read-number .ensures) ∙ at-v .v .given .1) _ (c .before .counter-question .ensures) (c .if1 .taken))
     (c .if1 .taken)
 
 mul-row : tie.Need-mul-row Inv-loop μ-loop
@@ -71,8 +76,12 @@ loop-less c = simp length-set (omega arith)
 
 loop-again : tie.Need-loop-again Inv-loop μ-loop
 loop-again c =
-    sofar-more _ _ _ _ _ _ _ _ _ _ (c .before .before .before .before .before .before .before .before .loop .inv) _ _ (c .before .before .before .before .before .before .before .loop-test .taken)
-    (sym (c .before .before .before .before .before .before .read-number .ensures) ∙ c .before .before .before .before .v .given .1) _ (c .before .counter-question .ensures) (c .if1 .left)
+    let at-v = c .before .before .before .before in
+    let at-read-number = at-v .before .before in
+    let at-loop-test = at-read-number .before in
+    let at-loop = at-loop-test .before in
+    sofar-more _ _ _ _ _ _ _ _ _ _ (at-loop .loop .inv) _ _ (at-loop-test .loop-test .taken)
+    (sym (at-read-number .read-number .ensures) ∙ at-v .v .given .1) _ (c .before .counter-question .ensures) (c .if1 .left)
 
 same-length-3 : tie.Need-same-length-3 Inv-loop μ-loop
 same-length-3 c = sofar-length _ _ _ _ _ _ _ _ _ _ (c .before .loop .inv)

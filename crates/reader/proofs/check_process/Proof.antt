@@ -28,7 +28,9 @@ sub-if2 c = search needs
 
 returns-3 : tie.Need-returns-3
 returns-3 c =
-    process-many _ _ _ _ _ _ _ (sym (c .before .before .before .before .before .read-number .ensures) ∙ c .before .before .before .c .given .1) (c .before .if1 .left) (omega arith)
+    let at-c = c .before .before .before in
+    let at-read-number = at-c .before .before in
+    process-many _ _ _ _ _ _ _ (sym (at-read-number .read-number .ensures) ∙ at-c .c .given .1) (c .before .if1 .left) (omega arith)
 
 sub-check-checkpoints : tie.Need-sub-check-checkpoints
 sub-check-checkpoints c = search needs
@@ -41,7 +43,9 @@ check-checkpoints-requires c κs = search needs
 
 returns-4 : tie.Need-returns-4
 returns-4 c =
-    process-asked _ _ _ _ _ _ _ (sym (c .before .before .before .before .before .before .read-number .ensures) ∙ c .before .before .before .before .c .given .1) _ (c .before .before .if1 .left) (omega arith)
+    let at-c = c .before .before .before .before in
+    let at-read-number = at-c .before .before in
+    process-asked _ _ _ _ _ _ _ (sym (at-read-number .read-number .ensures) ∙ at-c .c .given .1) _ (c .before .before .if1 .left) (omega arith)
     (c .check-checkpoints .ensures)
 
 pub check-process-spec : {M : Type 1} → statement M

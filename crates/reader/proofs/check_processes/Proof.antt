@@ -24,8 +24,11 @@ no-shape-requires c κs = search needs
 
 returns : tie.Need-returns Inv-loop μ-loop
 returns c =
+    let at-check-process = c .before .before .before in
+    let at-loop-test = at-check-process .before in
+    let at-loop = at-loop-test .before in
     checked-refused _ _ _ _
-    (met-refused _ _ _ _ _ _ _ _ (c .before .before .before .before .before .loop .inv) (c .before .before .before .before .loop-test .taken) (omega arith) _ (c .before .before .before .check-process .ensures) (c .before .if1 .taken))
+    (met-refused _ _ _ _ _ _ _ _ (at-loop .loop .inv) (at-loop-test .loop-test .taken) (omega arith) _ (at-check-process .check-process .ensures) (c .before .if1 .taken))
     (c .before .if1 .taken) (c .no-shape .ensures)
 
 mul-counts : tie.Need-mul-counts Inv-loop μ-loop
@@ -45,14 +48,19 @@ loop-less c = omega arith
 
 loop-again : tie.Need-loop-again Inv-loop μ-loop
 loop-again c =
-    met-more _ _ _ _ _ _ _ _ (c .before .before .before .before .loop .inv) (c .before .before .before .loop-test .taken) (omega arith) _ (c .before .before .check-process .ensures) (c .if1 .left)
+    let at-loop-test = c .before .before .before in
+    let at-loop = at-loop-test .before in
+    met-more _ _ _ _ _ _ _ _ (at-loop .loop .inv) (at-loop-test .loop-test .taken) (omega arith) _
+    (c .before .before .check-process .ensures) (c .if1 .left)
 
 no-shape-requires-2 : tie.Need-no-shape-requires-2 Inv-loop μ-loop
 no-shape-requires-2 c κs = search needs
 
 returns-2 : tie.Need-returns-2 Inv-loop μ-loop
 returns-2 c =
-    checked-refused _ _ _ _ (met-more-follows _ _ _ _ _ _ _ _ (c .before .before .before .loop .inv) (c .before .before .loop-test .left) (c .before .if2 .taken)) (λ z. omega arith)
+    let at-loop = c .before .before .before in
+    checked-refused _ _ _ _
+    (met-more-follows _ _ _ _ _ _ _ _ (at-loop .loop .inv) (c .before .before .loop-test .left) (c .before .if2 .taken)) (λ z. omega arith)
     (c .no-shape2 .ensures)
 
 returns-3 : tie.Need-returns-3 Inv-loop μ-loop

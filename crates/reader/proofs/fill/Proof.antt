@@ -18,12 +18,14 @@ enum-told c = search needs
 
 returns : tie.Need-returns
 returns c =
-    absurd (book-some _ (read-passed _ _ _ (c .before .before .before .before .before .before .pre) .book) (sym (c .before .before .read-number .ensures) ∙ c .enum-told .given .1))
+    let at-start = c .before .before .before .before .before .before in
+    absurd (book-some _ (read-passed _ _ _ (at-start .pre) .book) (sym (c .before .before .read-number .ensures) ∙ c .enum-told .given .1))
 
 fill-processes-requires : tie.Need-fill-processes-requires
 fill-processes-requires c κs =
     let passed = read-passed _ _ _ (c .before .before .before .before .before .before .before .before .before .pre) in
-    let begun = book-begun _ (passed .book) _ _ (sym (c .before .before .before .before .before .read-number .ensures) ∙ c .before .before .before .n .given .1) in
+    let begun = book-begun _ (passed .book) _ _
+    (sym (c .before .before .before .before .before .read-number .ensures) ∙ c .before .before .before .n .given .1) in
     ((begun .some, (begun .most, (passed .sentLong, passed .receivedLong))), begun .processes)
 
 mul-clear : tie.Need-mul-clear
@@ -31,14 +33,18 @@ mul-clear c = search needs
 
 clear-requires : tie.Need-clear-requires
 clear-requires c κs =
-    (omega arith, omega (arith, c .before .before .before .before .before .fill-processes .kept .1 .1 .1 .0, read-passed _ _ _ (c .before .before .before .before .before .before .before .before .before .before .before .before .before .before .before .pre) .sentLong))
+    let at-fill-processes = c .before .before .before .before .before in
+    let at-start = at-fill-processes .before .before .before .before .before .before .before .before .before .before in
+    (omega arith, omega (arith, at-fill-processes .fill-processes .kept .1 .1 .1 .0, read-passed _ _ _ (at-start .pre) .sentLong))
 
 mul-clear-2 : tie.Need-mul-clear-2
 mul-clear-2 c = search needs
 
 clear-requires-2 : tie.Need-clear-requires-2
 clear-requires-2 c κs =
-    (omega arith, omega (arith, c .before .before .before .before .before .before .before .before .before .fill-processes .kept .1 .1 .1 .1 .0, read-passed _ _ _ (c .before .before .before .before .before .before .before .before .before .before .before .before .before .before .before .before .before .before .before .pre) .receivedLong))
+    let at-fill-processes = c .before .before .before .before .before .before .before .before .before in
+    let at-start = at-fill-processes .before .before .before .before .before .before .before .before .before .before in
+    (omega arith, omega (arith, at-fill-processes .fill-processes .kept .1 .1 .1 .1 .0, read-passed _ _ _ (at-start .pre) .receivedLong))
 
 same-length : tie.Need-same-length
 same-length c = search needs
@@ -48,11 +54,18 @@ same-length-2 c = search needs
 
 returns-2 : tie.Need-returns-2
 returns-2 c =
-    let a = c .before .before .before .before .before .before .before .before .before .before .before .before .before .before .before .before .before .before .before .before .before .before .args in
-    let passed = read-passed _ _ _ (c .before .before .before .before .before .before .before .before .before .before .before .before .before .before .before .before .before .before .before .before .before .before .pre) in
-    let did = c .before .before .before .before .before .before .before .before .before .before .before .before .fill-processes .ensures in (
-      sent-filled _ (passed .book) _ _ (sym (c .before .before .before .before .before .before .before .before .before .before .before .before .before .before .before .before .before .before .read-number .ensures) ∙ c .before .before .before .before .before .before .before .before .before .before .before .before .before .before .before .before .n .given .1) (a .sent .now) _ _ _ (passed .sentLong) (did .0) (c .before .before .before .before .before .before .clear .ensures) (did .1 .0) (did .1 .1 .1 .0),
-      received-filled _ (passed .book) _ _ (sym (c .before .before .before .before .before .before .before .before .before .before .before .before .before .before .before .before .before .before .read-number .ensures) ∙ c .before .before .before .before .before .before .before .before .before .before .before .before .before .before .before .before .n .given .1) (a .received .now) _ _ _ (passed .receivedLong) (did .0) (c .before .before .clear2 .ensures) (did .1 .1 .0) (did .1 .1 .1 .1),
+    let at-clear = c .before .before .before .before .before .before in
+    let at-fill-processes = at-clear .before .before .before .before .before .before in
+    let at-n = at-fill-processes .before .before .before .before in
+    let at-read-number = at-n .before .before in
+    let at-start = at-read-number .before .before .before .before in
+    let a = at-start .args in
+    let passed = read-passed _ _ _ (at-start .pre) in
+    let did = at-fill-processes .fill-processes .ensures in (
+      sent-filled _ (passed .book) _ _ (sym (at-read-number .read-number .ensures) ∙ at-n .n .given .1) (a .sent .now) _ _ _
+          (passed .sentLong) (did .0) (at-clear .clear .ensures) (did .1 .0) (did .1 .1 .1 .0),
+      received-filled _ (passed .book) _ _ (sym (at-read-number .read-number .ensures) ∙ at-n .n .given .1) (a .received .now) _ _ _
+          (passed .receivedLong) (did .0) (c .before .before .clear2 .ensures) (did .1 .1 .0) (did .1 .1 .1 .1),
     )
 
 pub fill-spec : {M : Type 1} → statement M

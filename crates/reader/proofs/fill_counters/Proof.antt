@@ -30,7 +30,11 @@ same-length : tie.Need-same-length Inv-loop μ-loop
 same-length c = put-length _ _ _ _ _ _ _ _ (c .before .before .before .before .loop .inv)
 
 returns : tie.Need-returns Inv-loop μ-loop
-returns c = absurd (put-never _ _ _ _ _ _ _ _ (c .before .before .before .before .loop .inv) (c .before .before .before .loop-test .taken) (sym (c .before .before .read-number .ensures) ∙ c .enum-told .given .1))
+returns c =
+    let at-loop-test = c .before .before .before in
+    let at-loop = at-loop-test .before in
+    absurd
+    (put-never _ _ _ _ _ _ _ _ (at-loop .loop .inv) (at-loop-test .loop-test .taken) (sym (c .before .before .read-number .ensures) ∙ c .enum-told .given .1))
 
 cast-table : tie.Need-cast-table Inv-loop μ-loop
 cast-table c =
@@ -50,7 +54,11 @@ loop-less c = omega arith
 
 loop-again : tie.Need-loop-again Inv-loop μ-loop
 loop-again c =
-    put-more _ _ _ _ _ _ _ _ (c .before .before .before .before .before .loop .inv) _ _ (c .before .before .before .before .loop-test .taken) (sym (c .before .before .before .read-number .ensures) ∙ c .before .v .given .1)
+    let at-read-number = c .before .before .before in
+    let at-loop-test = at-read-number .before in
+    let at-loop = at-loop-test .before in
+    put-more _ _ _ _ _ _ _ _ (at-loop .loop .inv) _ _ (at-loop-test .loop-test .taken)
+    (sym (at-read-number .read-number .ensures) ∙ c .before .v .given .1)
 
 same-length-2 : tie.Need-same-length-2 Inv-loop μ-loop
 same-length-2 c = put-length _ _ _ _ _ _ _ _ (c .before .loop .inv)

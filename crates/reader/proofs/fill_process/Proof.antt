@@ -33,16 +33,20 @@ fill-row-requires c κs = (
 )
 
 fill-row-requires-2 : tie.Need-fill-row-requires-2 Inv-loop μ-loop
-fill-row-requires-2 c κs = (
-  omega arith,
-  (
-    omega arith,
-    (
-      omega (arith, filled-received _ _ _ _ _ _ _ _ _ _ _ _ (c .before .before .before .before .before .before .loop .inv)),
-      received-enough _ _ _ _ _ _ _ _ _ _ _ _ (c .before .before .before .before .before .before .loop .inv) (c .before .before .before .before .before .loop-test .taken) (omega arith) _ (c .before .before .before .fill-row .ensures .0),
-    ),
-  ),
-)
+fill-row-requires-2 c κs =
+    let at-fill-row = c .before .before .before in
+    let at-loop-test = at-fill-row .before .before in
+    let at-loop = at-loop-test .before in (
+      omega arith,
+      (
+        omega arith,
+        (
+          omega (arith, filled-received _ _ _ _ _ _ _ _ _ _ _ _ (at-loop .loop .inv)),
+          received-enough _ _ _ _ _ _ _ _ _ _ _ _ (at-loop .loop .inv) (at-loop-test .loop-test .taken) (omega arith) _
+              (at-fill-row .fill-row .ensures .0),
+        ),
+      ),
+    )
 
 add-r : tie.Need-add-r Inv-loop μ-loop
 add-r c = omega arith
@@ -52,8 +56,12 @@ loop-less c = omega arith
 
 loop-again : tie.Need-loop-again Inv-loop μ-loop
 loop-again c =
-    filled-more _ _ _ _ _ _ _ _ _ _ _ _ (c .before .before .before .before .before .before .before .before .before .loop .inv) (c .before .before .before .before .before .before .before .before .loop-test .taken) (omega arith) _ (c .before .before .before .before .before .before .fill-row .ensures .0) _ _ _
-    (c .before .before .fill-row2 .ensures .0) (c .before .before .before .before .before .before .fill-row .ensures .1) (c .before .before .fill-row2 .ensures .1)
+    let at-fill-row = c .before .before .before .before .before .before in
+    let at-loop-test = at-fill-row .before .before in
+    let at-loop = at-loop-test .before in
+    filled-more _ _ _ _ _ _ _ _ _ _ _ _ (at-loop .loop .inv) (at-loop-test .loop-test .taken) (omega arith) _
+    (at-fill-row .fill-row .ensures .0) _ _ _
+    (c .before .before .fill-row2 .ensures .0) (at-fill-row .fill-row .ensures .1) (c .before .before .fill-row2 .ensures .1)
 
 same-length : tie.Need-same-length Inv-loop μ-loop
 same-length c = filled-sent _ _ _ _ _ _ _ _ _ _ _ _ (c .before .loop .inv)

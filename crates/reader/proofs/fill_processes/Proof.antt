@@ -34,22 +34,36 @@ same-length-2 c = filled-received _ _ _ _ _ _ _ _ _ _ (c .before .before .before
 
 returns : tie.Need-returns Inv-loop μ-loop
 returns c =
-    absurd (filled-never _ _ _ _ _ _ _ _ _ _ (c .before .before .before .before .loop .inv) (c .before .before .before .loop-test .taken) (sym (c .before .before .read-number .ensures) ∙ c .enum-told .given .1))
+    let at-loop-test = c .before .before .before in
+    let at-loop = at-loop-test .before in
+    absurd
+    (filled-never _ _ _ _ _ _ _ _ _ _ (at-loop .loop .inv) (at-loop-test .loop-test .taken) (sym (c .before .before .read-number .ensures) ∙ c .enum-told .given .1))
 
 fill-process-requires : tie.Need-fill-process-requires Inv-loop μ-loop
-fill-process-requires c κs = (
-  (omega arith, (omega arith, filled-count _ _ _ _ _ _ _ _ _ _ (c .before .before .before .before .before .before .before .loop .inv) (c .before .before .before .before .before .before .loop-test .taken) _ _ (sym (c .before .before .before .before .before .read-number .ensures) ∙ c .before .before .before .c .given .1) .1)),
-  (
-    omega (arith, filled-sent _ _ _ _ _ _ _ _ _ _ (c .before .before .before .before .before .before .before .loop .inv)),
-    (
-      omega (arith, filled-received _ _ _ _ _ _ _ _ _ _ (c .before .before .before .before .before .before .before .loop .inv)),
-      filled-enough _ _ _ _ _ _ _ _ _ _ (c .before .before .before .before .before .before .before .loop .inv) (c .before .before .before .before .before .before .loop-test .taken) _ _ (sym (c .before .before .before .before .before .read-number .ensures) ∙ c .before .before .before .c .given .1),
-    ),
-  ),
-)
+fill-process-requires c κs =
+    let at-c = c .before .before .before in
+    let at-read-number = at-c .before .before in
+    let at-loop-test = at-read-number .before in
+    let at-loop = at-loop-test .before in
+    let pre = at-loop .before .before .before .before .pre .0 in
+    let inv = at-loop .loop .inv in
+    let more = at-loop-test .loop-test .taken in
+    let here = sym (at-read-number .read-number .ensures) ∙ at-c .c .given .1 in (
+      (more, (pre .1 .0, filled-count _ _ _ _ _ _ _ _ _ _ inv more _ _ here .1)),
+      (
+        filled-sent _ _ _ _ _ _ _ _ _ _ inv ∙ pre .1 .1 .0,
+        (filled-received _ _ _ _ _ _ _ _ _ _ inv ∙ pre .1 .1 .1, filled-enough _ _ _ _ _ _ _ _ _ _ inv more _ _ here),
+      ),
+    )
 
 add-first : tie.Need-add-first Inv-loop μ-loop
-add-first c = omega (arith, filled-count _ _ _ _ _ _ _ _ _ _ (c .before .before .before .before .before .before .before .before .before .before .before .before .loop .inv) (c .before .before .before .before .before .before .before .before .before .before .before .loop-test .taken) _ _ (sym (c .before .before .before .before .before .before .before .before .before .before .read-number .ensures) ∙ c .before .before .before .before .before .before .before .before .c .given .1) .1)
+add-first c =
+    let at-c = c .before .before .before .before .before .before .before .before in
+    let at-read-number = at-c .before .before in
+    let at-loop-test = at-read-number .before in
+    let at-loop = at-loop-test .before in
+    omega
+    (arith, filled-count _ _ _ _ _ _ _ _ _ _ (at-loop .loop .inv) (at-loop-test .loop-test .taken) _ _ (sym (at-read-number .read-number .ensures) ∙ at-c .c .given .1) .1)
 
 add-j : tie.Need-add-j Inv-loop μ-loop
 add-j c = omega arith
@@ -59,8 +73,14 @@ loop-less c = omega arith
 
 loop-again : tie.Need-loop-again Inv-loop μ-loop
 loop-again c =
-    filled-more _ _ _ _ _ _ _ _ _ _ (c .before .before .before .before .before .before .before .before .before .before .before .before .loop .inv) (c .before .before .before .before .before .before .before .before .before .before .before .loop-test .taken) _ _ (sym (c .before .before .before .before .before .before .before .before .before .before .read-number .ensures) ∙ c .before .before .before .before .before .before .before .before .c .given .1) _ _ _ (omega arith)
-    (c .before .before .before .before .fill-process .ensures .0) (c .before .before .before .before .fill-process .ensures .1 .0) (c .before .before .before .before .fill-process .ensures .1 .1)
+    let at-fill-process = c .before .before .before .before in
+    let at-c = at-fill-process .before .before .before .before in
+    let at-read-number = at-c .before .before in
+    let at-loop-test = at-read-number .before in
+    let at-loop = at-loop-test .before in
+    filled-more _ _ _ _ _ _ _ _ _ _ (at-loop .loop .inv) (at-loop-test .loop-test .taken) _ _
+    (sym (at-read-number .read-number .ensures) ∙ at-c .c .given .1) _ _ _ (at-loop .before .before .before .before .pre .0 .1 .0)
+    (at-fill-process .fill-process .ensures .0) (at-fill-process .fill-process .ensures .1 .0) (at-fill-process .fill-process .ensures .1 .1)
 
 same-length-3 : tie.Need-same-length-3 Inv-loop μ-loop
 same-length-3 c = filled-sent _ _ _ _ _ _ _ _ _ _ (c .before .loop .inv)

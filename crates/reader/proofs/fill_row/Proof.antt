@@ -29,11 +29,14 @@ add-fill-counters-2 c = search needs
 
 fill-counters-requires-2 : tie.Need-fill-counters-requires-2
 fill-counters-requires-2 c κs =
-    let a = c .before .before .before .before .before .before .before .args in (
+    let at-fill-counters = c .before .before .before in
+    let at-start = at-fill-counters .before .before .before .before in
+    let a = at-start .args in (
       omega arith,
       (
-        simp length-set (omega (arith, c .before .before .before .fill-counters .kept .1 .1 .0)),
-        middle-enough (a .n) (a .j) (a .start) (omega arith) (omega arith) (bookNumbersFrom (a .s .now) (a .at)) _ (omega arith) (c .before .before .before .fill-counters .ensures .0),
+        simp length-set (omega (arith, at-fill-counters .fill-counters .kept .1 .1 .0)),
+        middle-enough (a .n) (a .j) (a .start) (omega arith) (omega arith) (bookNumbersFrom (a .s .now) (a .at)) _ (omega arith)
+            (at-fill-counters .fill-counters .ensures .0),
       ),
     )
 
@@ -45,17 +48,28 @@ add-clear-2 c = search needs
 
 clear-requires : tie.Need-clear-requires
 clear-requires c κs =
-    (omega arith, omega (arith, simp length-set at (c .before .before .before .fill-counters2 .kept .1 .1 .0), c .before .before .before .before .before .before .before .fill-counters .kept .1 .1 .0))
+    let at-fill-counters2 = c .before .before .before in
+    let at-fill-counters = at-fill-counters2 .before .before .before .before in
+    (omega arith, omega (arith, simp length-set at (at-fill-counters2 .fill-counters2 .kept .1 .1 .0), at-fill-counters .fill-counters .kept .1 .1 .0))
 
 same-length : tie.Need-same-length
 same-length c =
-    c .before .before .clear .kept .0 ∙ (simp length-set at (c .before .before .before .before .before .before .fill-counters2 .kept .1 .1 .0)) ∙ c .before .before .before .before .before .before .before .before .before .before .fill-counters .kept .1 .1 .0
+    let at-fill-counters2 = c .before .before .before .before .before .before in
+    let at-fill-counters = at-fill-counters2 .before .before .before .before in
+    c .before .before .clear .kept .0 ∙ (simp length-set at (at-fill-counters2 .fill-counters2 .kept .1 .1 .0))
+    ∙ at-fill-counters .fill-counters .kept .1 .1 .0
 
 returns : tie.Need-returns
 returns c =
-    let a = c .before .before .before .before .before .before .before .before .before .before .before .before .before .before .args in (
-      row-rest (a .n) (a .j) (a .start) (omega arith) (omega arith) (bookNumbersFrom (a .s .now) (a .at)) _ (omega arith) (c .before .before .before .before .before .before .before .before .before .before .fill-counters .ensures .0) _ (c .before .before .before .before .before .before .fill-counters2 .ensures .0),
-      row-filled (a .n) (a .j) (a .start) (omega arith) (omega arith) (bookNumbersFrom (a .s .now) (a .at)) _ (omega arith) (c .before .before .before .before .before .before .before .before .before .before .fill-counters .ensures .0) _ _ _ _ (c .before .before .before .before .before .before .before .before .before .before .fill-counters .ensures .1) (c .before .before .before .before .before .before .fill-counters2 .ensures .1) (c .before .before .clear .ensures),
+    let at-fill-counters2 = c .before .before .before .before .before .before in
+    let at-fill-counters = at-fill-counters2 .before .before .before .before in
+    let at-start = at-fill-counters .before .before .before .before in
+    let a = at-start .args in (
+      row-rest (a .n) (a .j) (a .start) (omega arith) (omega arith) (bookNumbersFrom (a .s .now) (a .at)) _ (omega arith)
+          (at-fill-counters .fill-counters .ensures .0) _ (at-fill-counters2 .fill-counters2 .ensures .0),
+      row-filled (a .n) (a .j) (a .start) (omega arith) (omega arith) (bookNumbersFrom (a .s .now) (a .at)) _ (omega arith)
+          (at-fill-counters .fill-counters .ensures .0) _ _ _ _ (at-fill-counters .fill-counters .ensures .1)
+          (at-fill-counters2 .fill-counters2 .ensures .1) (c .before .before .clear .ensures),
     )
 
 pub fill-row-spec : {M : Type 1} → statement M

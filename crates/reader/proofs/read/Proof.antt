@@ -16,8 +16,10 @@ same-length-2 c = search needs
 
 returns : tie.Need-returns
 returns c =
-    let a = c .before .before .before .before .before .before .before .before .before .args in
-    read-refused (a .bytes .now) (a .sent .now) (a .received .now) _ _ (c .before .before .before .check .ensures .0) (c .if1 .taken) (c .before .before .before .check .ensures .1)
+    let at-check = c .before .before .before in
+    let at-start = at-check .before .before .before .before .before .before in
+    let a = at-start .args in
+    read-refused (a .bytes .now) (a .sent .now) (a .received .now) _ _ (at-check .check .ensures .0) (c .if1 .taken) (at-check .check .ensures .1)
 
 fill-requires : tie.Need-fill-requires
 fill-requires c κs = search needs
@@ -30,9 +32,14 @@ same-length-4 c = search needs
 
 returns-2 : tie.Need-returns-2
 returns-2 c =
-    let a = c .before .before .before .before .before .before .before .before .before .before .before .before .before .before .before .before .args in
-    read-accepted (a .bytes .now) (a .sent .now) (a .received .now) _ _ _ (sym (c .before .before .before .before .before .before .before .before .before .before .check .ensures .0) ∙ c .before .before .before .before .before .before .before .if1 .left) (c .before .before .before .before .before .before .before .before .before .before .check .ensures .1) (c .before .before .before .before .fill .ensures .0)
-    (c .before .before .before .before .fill .ensures .1)
+    let at-fill = c .before .before .before .before in
+    let at-if1 = at-fill .before .before .before in
+    let at-check = at-if1 .before .before .before in
+    let at-start = at-check .before .before .before .before .before .before in
+    let a = at-start .args in
+    read-accepted (a .bytes .now) (a .sent .now) (a .received .now) _ _ _ (sym (at-check .check .ensures .0) ∙ at-if1 .if1 .left)
+    (at-check .check .ensures .1) (at-fill .fill .ensures .0)
+    (at-fill .fill .ensures .1)
 
 pub read-spec : {M : Type 1} → statement M
 read-spec =
