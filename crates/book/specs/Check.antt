@@ -17,9 +17,9 @@ countsQuestion sum (count ∷ counts) = countQuestion sum count then λ _. count
 
 -- 6 to 8 in book order
 unfoldable pub rowsQuestion : ℕ → ℕ → List (List (List ℕ)) → ℕ
-rowsQuestion above n [] = 0
-rowsQuestion above n (checkpoints ∷ more) =
-    processQuestion above n (length checkpoints) (joined checkpoints) then λ _. rowsQuestion above n more
+rowsQuestion mark′ n [] = 0
+rowsQuestion mark′ n (checkpoints ∷ more) =
+    processQuestion mark′ n (length checkpoints) (joined checkpoints) then λ _. rowsQuestion mark′ n more
 
 -- the first question that lent tables fail
 unfoldable pub tablesQuestion : Shape → List ℕ → List ℕ → ℕ

@@ -6,9 +6,11 @@ use native.Mathlib.Nat.{add-zero}
 use native.Mathlib.Omega.{arith}
 use lib.ListN.{length, take, set, replicate, length-append, length-replicate, replicate-append-replicate}
 use lib.Seq.{sets, length-sets, take-at, append-snoc}
+use Rattle.varint.specs.declared.Numeral.{Numeral}
 use Rattle.varint.specs.declared.Numeral.the-variants.{Number, Refused}
-use Rattle.varint.specs.Number.{readNumber}
+use Rattle.varint.specs.Number.{readNumber, anyNumber, stands}
 use Rattle.varint.specs.Sequence.{Numbers, after}
+use Rattle.varint.proofs.Wider.{any-number, any-stands}
 use Rattle.varint.proofs.Sequence.{numbers-none, numbers-more}
 use Rattle.book.specs.Bounds.{groups, largest}
 use Rattle.book.proofs.Stores.{sets-append}
@@ -37,10 +39,25 @@ module _ (s : List ℕ) (at : ℕ) (table₀ : List ℕ) (from to : ℕ) (table 
   put-length = ap length (inv .present) ∙ length-sets table₀ from (inv .done)
 
   -- there are numbers enough
-  pub put-never : i < to → readNumber groups largest s next ≡ Refused → ⊥
+  put-never : i < to → readNumber groups largest s next ≡ Refused → ⊥
   put-never h r =
       let none : length (bookNumbersFrom s next .found) ≡ 0 = ap (λ (ns : Numbers). length (ns .found)) (numbers-none groups largest s next r) in
       omega (arith, inv .enough)
+
+  pub put-there : i < to → stands (anyNumber s next)
+  put-there h = go (readNumber groups largest s next) refl
+    where
+      go : (r : Numeral) → readNumber groups largest s next ≡ r → stands (anyNumber s next)
+      go Refused e = absurd (put-never h e)
+      go (Number v after) e = any-stands groups largest s next v after (omega arith) (omega arith) e
+
+  -- what is found without asking is what a reader finds
+  pub put-found : (v after : ℕ) → i < to → Number v after ≡ anyNumber s next → readNumber groups largest s next ≡ Number v after
+  put-found v after h f = go (readNumber groups largest s next) refl
+    where
+      go : (r : Numeral) → readNumber groups largest s next ≡ r → readNumber groups largest s next ≡ Number v after
+      go Refused e = absurd (put-never h e)
+      go (Number w n) e = e ∙ sym (any-number groups largest s next w n (omega arith) (omega arith) e) ∙ sym f
 
   pub put-more : (v after : ℕ) → i < to → readNumber groups largest s next ≡ Number v after → Put s at table₀ from to (set table i v) after (i + 1)
   put-more v after h r =

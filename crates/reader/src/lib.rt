@@ -200,12 +200,9 @@ fn fill_counters(s: &[u8], at: usize, table: &mut [Counter], from: usize, to: us
     let mut next = at;
     let mut i = from;
     while i < to {
-        let Numeral::Number(v, after) = varint::read_number(s, next, book::GROUPS, book::LARGEST)
-        else {
-            return next;
-        };
-        table[i] = v as Counter;
-        next = after;
+        let found = varint::number_at(s, next);
+        table[i] = found.value as Counter;
+        next = found.next;
         i += 1;
     }
     next

@@ -99,7 +99,8 @@ module _ (s : List ℕ) (at groups value shift k i b : ℕ) (byte : b ≡ getD s
   last limit small shortest =
       let bits : shift + 7 ≤ 64 = omega (arith, inv .bits) in
       let some : eqb k 0 ≡ false → 1 ≤ b = λ f. shortest (not-zero k (eqb-false k 0 f)) in
-      rw (split, groups-last (groups - (k + 1)) (eqb k 0) b (drop (i + 1) s) i small, last-some (eqb k 0) b (i + 1) some, join-group value shift b (inv .small) small bits)
+      rw
+      (split, groups-last (groups - (k + 1)) (eqb k 0) b (drop (i + 1) s) i small, last-some (eqb k 0) b (i + 1) some, join-group value shift b (inv .small) small bits)
 
   pub turn-over : (limit : ℕ) → b < 128 → (0 < k → 1 ≤ b) → limit < bitOr value (b * 2 ^ shift % 2 ^ 64) → Refused ≡ readNumber groups limit s at
   turn-over limit small shortest over = sym (last limit small shortest ∙ at-most-over limit (bitOr value (b * 2 ^ shift % 2 ^ 64)) (i + 1) over)

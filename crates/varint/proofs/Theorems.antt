@@ -14,7 +14,8 @@ reads-back = read-encode
 
 pub written-is-read : WrittenIsRead
 written-is-read g l n out at h k m room =
-    rw (bytes-room n out at room) (read-encode g l n (sets out at (encode n)) at (drop (at + length (encode n)) out) h k m (drop-sets (encode n) out at room))
+    rw (bytes-room n out at room)
+    (read-encode g l n (sets out at (encode n)) at (drop (at + length (encode n)) out) h k m (drop-sets (encode n) out at room))
 
 pub writes-back : WritesBack
 writes-back g l s at v next t e = (encode-read g l s at v next t e, encode-next g l s at v next t e, read-next g l s at v next e .2)

@@ -4,7 +4,7 @@ ghost use mathlib.Core.Path.{_≡_};
 ghost use Prim.Native.Nat.{_+_, _≤_};
 ghost use lib.Seq.{sets};
 ghost use lib.ListN.{length};
-ghost use Rattle.varint.specs.Number.{encode, readNumber};
+ghost use Rattle.varint.specs.Number.{encode, readNumber, anyNumber, stands};
 ghost use Rattle.varint.specs.Write.{placeAfter, bytesAfter};
 
 // What stands at a place.
@@ -13,6 +13,12 @@ pub enum Numeral {
     Number(u64, usize),
     // No number: not whole, not shortest, of too many groups or too large.
     Refused,
+}
+
+// A number that was found, and the place after it.
+pub struct Found {
+    pub value: u64,
+    pub next: usize,
 }
 
 // The place after a number that was written.
@@ -58,6 +64,27 @@ pub fn read_number(s: &[u8], at: usize, groups: u32, limit: u64) -> Numeral
         i += 1;
     }
     Numeral::Refused
+}
+
+// The number at a place where one is known to stand: nothing is asked again.
+pub fn number_at(s: &[u8], at: usize) -> Found
+    requires { ⌜ stands (anyNumber (now s) at) ⌝ }
+    ensures { λ r. ⌜ Numeral.Number (r .value) (r .next) ≡ anyNumber (now (s .entry)) at ⌝ }
+{
+    let mut known: u64 = 0;
+    let mut bits: u32 = 0;
+    let mut i = at;
+    let mut b = wide(s[i]);
+    while 128 <= b {
+        known = known | ((b & 127) << bits);
+        bits += 7;
+        i += 1;
+        b = wide(s[i]);
+    }
+    Found {
+        value: known | (b << bits),
+        next: i + 1,
+    }
 }
 
 // How many bytes a number takes.
