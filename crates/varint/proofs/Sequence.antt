@@ -12,7 +12,7 @@ use lib.Pow.{areBytes}
 use Rattle.varint.specs.declared.Numeral.{Numeral}
 use Rattle.varint.specs.declared.Numeral.the-variants.{Number, Refused}
 use Rattle.varint.specs.Number.{encode, readNumber}
-use Rattle.varint.specs.Sequence.{encodeAll, Numbers, scan, numbersAt, after}
+use Rattle.varint.specs.Sequence.{encodeAll, Numbers, scan, numbersAt}
 use Rattle.varint.proofs.Bytes.{bytes-append}
 use Rattle.varint.proofs.Encode.{encode-size, encode-bytes}
 use Rattle.varint.proofs.Reading.{read-next, read-past, read-encode, encode-read, encode-next}
@@ -67,11 +67,6 @@ numbers-more g l s at v next e =
     let f : length s - at ≡ suc (length s - at - 1) = omega arith in
     rw (f, scan-more g l (length s - at - 1) s at v next e, scan-fuel g l (length s - at - 1) (length s - next) s next (omega arith) (omega arith))
 
--- the numbers after the first
-pub numbers-after : (g l : ℕ) (s : List ℕ) (at v next : ℕ) → readNumber g l s at ≡ Number v next
-    → numbersAt g l s next ≡ after 1 (numbersAt g l s at)
-numbers-after g l s at v next e = rw (numbers-more g l s at v next e)
-
 -- ---- what holds of the numbers found
 
 -- it holds where no number stands, and it goes back from the place after a number to the number's place
@@ -89,31 +84,6 @@ numbers-induction g l s P none more (suc fuel) at h =
     go (Number v next) e ih =
         let n = read-next g l s at v next e in
         rw (numbers-more g l s at v next e) (more at v next (numbersAt g l s next) e (ih next (omega arith)))
-
--- the place where the numbers stop is no earlier, and within the bytes
-pub stop-within : (g l : ℕ) (s : List ℕ) (at : ℕ) → at ≤ length s
-    → (at ≤ numbersAt g l s at .stop) × (numbersAt g l s at .stop ≤ length s)
-stop-within g l s at h =
-    let P : ℕ → Numbers → Type 0 = λ a r. a ≤ length s → (a ≤ r .stop) × (r .stop ≤ length s) in
-    numbers-induction g l s P (λ a e k. (omega arith, k))
-    (λ a v next r e ih k.
-    let n = read-next g l s a v next e in
-    let i = ih (n .1) in (omega arith, i .1))
-    (length s) at (omega arith) h
-
--- every number found is at most the limit
-pub found-at-most : (g l : ℕ) (s : List ℕ) (at i : ℕ) → i < length (numbersAt g l s at .found)
-    → getD (numbersAt g l s at .found) i 0 ≤ l
-found-at-most g l s at =
-    let P : ℕ → Numbers → Type 0 = λ a r. (i : ℕ) → i < length (r .found) → getD (r .found) i 0 ≤ l in
-    numbers-induction g l s P (λ a e i k. absurd (omega arith))
-    (λ a v next r e ih. step v r (read-next g l s a v next e .2) ih)
-    (length s) at (omega arith)
-  where
-    step : (v : ℕ) (r : Numbers) → v ≤ l → ((i : ℕ) → i < length (r .found) → getD (r .found) i 0 ≤ l)
-        → (i : ℕ) → i < suc (length (r .found)) → getD (v ∷ r .found) i 0 ≤ l
-    step v r h ih zero k = h
-    step v r h ih (suc i) k = ih i (omega arith)
 
 -- the numbers found, written again, are the bytes up to where they stop
 pub encodeAll-scan : (g l : ℕ) (s : List ℕ) (at : ℕ) → T (areBytes s)
@@ -155,12 +125,6 @@ encodeAll-size g (n ∷ ns) h k =
     let b : length (encodeAll ns) ≤ g * length ns = encodeAll-size g ns h (λ i m. k (suc i) (omega arith)) in
     rw (length-append (encode n) (encodeAll ns), mul-suc g (length ns)) (omega arith)
 
--- each group is a byte
-pub encodeAll-bytes : (ns : List ℕ) → T (areBytes (encodeAll ns))
-unfolding encodeAll
-encodeAll-bytes [] = tt
-encodeAll-bytes (n ∷ ns) = bytes-append (encode n) (encodeAll ns) (encode-bytes n) (encodeAll-bytes ns)
-
 -- where numbers were written, they are found, and then what is found after them
 pub numbers-encodeAll : (g l : ℕ) (ns s : List ℕ) (at : ℕ) (rest : List ℕ) → 1 ≤ g → l < 128 ^ g
     → ((i : ℕ) → i < length ns → getD ns i 0 ≤ l) → drop at s ≡ encodeAll ns ++ rest
@@ -191,3 +155,9 @@ scan-encodeAll g l ns h k f =
     = numbers-none g l s (length s) (read-past g l s (length s) (omega arith)) in
     let z : 0 + length s ≡ length s = omega arith in
     (rw (z, past, append-nil ns) at (numbers-encodeAll g l ns s 0 [] h k f (sym (append-nil s))))
+
+-- what is written is bytes
+pub encodeAll-bytes : (ns : List ℕ) → T (areBytes (encodeAll ns))
+unfolding encodeAll
+encodeAll-bytes [] = tt
+encodeAll-bytes (n ∷ ns) = bytes-append (encode n) (encodeAll ns) (encode-bytes n) (encodeAll-bytes ns)

@@ -4,9 +4,9 @@ use Prim.Native.Nat.{_+_}
 use lib.ListN.{length, drop}
 use lib.Seq.{sets}
 use Rattle.varint.specs.Number.{encode}
-use Rattle.varint.specs.Laws.{ReadsBack, WrittenIsRead, WritesBack, OneForm, AllReadBack, AllWrittenBack}
+use Rattle.varint.specs.Laws.{ReadsBack, WrittenIsRead, WritesBack, OneForm, AllReadBack, AllWrittenBack, WrittenAreBytes}
 use Rattle.varint.proofs.Reading.{read-next, read-encode, encode-read, encode-next, one-form}
-use Rattle.varint.proofs.Sequence.{scan-encodeAll, encodeAll-scan, scan-stop}
+use Rattle.varint.proofs.Sequence.{scan-encodeAll, encodeAll-scan, scan-stop, encodeAll-bytes}
 use Rattle.varint.proofs.WriteTurns.{drop-sets, bytes-room}
 
 pub reads-back : ReadsBack
@@ -28,3 +28,6 @@ all-read-back = scan-encodeAll
 
 pub all-written-back : AllWrittenBack
 all-written-back g l s at t = (encodeAll-scan g l s at t, scan-stop g l s at t)
+
+pub written-are-bytes : WrittenAreBytes
+written-are-bytes = encodeAll-bytes

@@ -48,3 +48,7 @@ AllWrittenBack =
     (groups limit : ℕ) (s : List ℕ) (at : ℕ) → T (areBytes s)
     → (drop at s ≡ encodeAll (numbersAt groups limit s at .found) ++ drop (numbersAt groups limit s at .stop) s)
     × (numbersAt groups limit s at .stop ≡ at + length (encodeAll (numbersAt groups limit s at .found)))
+
+-- what is written is bytes, so that the laws of what was read hold of it
+abbrev pub WrittenAreBytes : Type 0
+WrittenAreBytes = (ns : List ℕ) → T (areBytes (encodeAll ns))
