@@ -4,6 +4,7 @@ pub mod Counts
 pub mod Fits
 pub mod Questions
 pub mod Rows
+pub mod Starts
 pub mod Stores
 pub mod Sums
 pub mod Tests

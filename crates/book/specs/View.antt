@@ -15,6 +15,14 @@ sum (count ∷ counts) = count + sum counts
 abbrev pub firstRow : List ℕ → ℕ → ℕ
 firstRow counts j = sum (take j counts)
 
+-- the first rows of all processes: a running start, kept from process to process
+unfoldable pub startsFrom : ℕ → List ℕ → List ℕ
+startsFrom first [] = []
+startsFrom first (count ∷ counts) = first ∷ startsFrom (first + count) counts
+
+abbrev pub firstRows : List ℕ → List ℕ
+firstRows counts = startsFrom 0 counts
+
 -- the counter in a table
 abbrev pub counterAt : List ℕ → List ℕ → ℕ → ℕ → ℕ → ℕ
 counterAt counts table j r p = getD table ((firstRow counts j + (r - 1)) * rowWidth + p) 0

@@ -4,8 +4,9 @@ ghost use mathlib.Core.Path.{_≡_};
 ghost use Prim.Native.Nat.{_+_, _-_, _*_, _≤_, _<_};
 ghost use lib.ListN.{length, getD};
 ghost use Rattle.book.specs.Tables.{column};
-ghost use Rattle.book.specs.View.{sum, firstRow, counterAt};
+ghost use Rattle.book.specs.View.{sum, firstRows, counterAt};
 ghost use Rattle.book.specs.Questions.{zeroIfOldest, counterQuestion};
+ghost use Rattle.book.specs.Fits.{Placed};
 
 // The bounds of document 01.
 pub const MOST_PROCESSES: usize = 16;
@@ -40,6 +41,12 @@ pub struct Count(pub Counter);
 pub struct Shape {
     pub n: usize,
     pub counts: [usize; 16],
+}
+
+// A shape, and the first row of each process in the tables: found once, so that no place is added up anew.
+pub struct TableRows {
+    pub shape: Shape,
+    pub first: [usize; 16],
 }
 
 // How large a book's numbers may be, in groups and in value, and its mark: arguments of a reader, since editions of the
@@ -102,30 +109,34 @@ pub fn column(j: usize, k: usize) -> usize
     if k < j { k } else { k + 1 }
 }
 
-// The first row of a process in the tables.
-pub fn first_row(shape: Shape, j: Process) -> usize
-    requires { ⌜ (1 ≤ j .0) × ((j .0 ≤ 16) × (sum (shape .counts) ≤ 256)) ⌝ }
-    ensures { λ r. ⌜ r ≡ firstRow (shape .counts) (j .0 - 1) ⌝ }
+// The first rows of a shape's processes.
+pub fn rows_of(shape: Shape) -> TableRows
+    requires { ⌜ sum (shape .counts) ≤ 256 ⌝ }
+    ensures { λ r. ⌜ (r .shape ≡ shape) × (r .first ≡ firstRows (shape .counts)) ⌝ }
 {
     let counts = shape.counts;
-    let end = j.0 - 1;
+    let mut first = [0usize; 16];
     let mut row = 0;
-    let mut i = 0;
-    while i < end {
-        row += counts[i];
-        i += 1;
+    let mut j = 0;
+    while j < MOST_PROCESSES {
+        first[j] = row;
+        row += counts[j];
+        j += 1;
     }
-    row
+    TableRows { shape, first }
 }
 
 // The counter of process j's checkpoint r for partner p: S in the sent table, R in the received one.
-pub fn counter(shape: Shape, table: &[Counter], j: Process, r: Checkpoint, p: Process) -> Count
-    requires { ⌜ (1 ≤ j .0) × ((j .0 ≤ 16) × (sum (shape .counts) ≤ 256)) ⌝ }
-    requires { ⌜ (1 ≤ r .0) × (r .0 ≤ getD (shape .counts) (j .0 - 1) 0) ⌝ }
+pub fn counter(rows: TableRows, table: &[Counter], j: Process, r: Checkpoint, p: Process) -> Count
+    requires { ⌜ Placed rows ⌝ }
+    requires { ⌜ (1 ≤ j .0) × (j .0 ≤ 16) ⌝ }
+    requires { ⌜ (1 ≤ r .0) × (r .0 ≤ getD (rows .shape .counts) (j .0 - 1) 0) ⌝ }
     requires { ⌜ (1 ≤ p .0) × ((p .0 ≤ 16) × (length (now table) ≡ 4096)) ⌝ }
-    ensures { λ v. ⌜ v .0 ≡ counterAt (shape .counts) (now (table .entry)) (j .0 - 1) (r .0) (p .0 - 1) ⌝ }
+    ensures { λ v. ⌜ v .0 ≡ counterAt (rows .shape .counts) (now (table .entry)) (j .0 - 1) (r .0) (p .0 - 1) ⌝ }
 {
-    let row = first_row(shape, j) + (r.0 - 1);
+    let first = rows.first;
+    let i = j.0 - 1;
+    let row = first[i] + (r.0 - 1);
     let at = row * ROW_WIDTH + (p.0 - 1);
     Count(table[at])
 }
