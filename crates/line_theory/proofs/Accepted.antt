@@ -1,0 +1,184 @@
+-- Tables that pass every question are a book, as the theory of the line wants it, and have few enough processes and
+-- checkpoints.
+use mathlib.Core.Path.{_≡_, refl, sym, ap, subst, _∙_}
+use mathlib.Core.Bool.{true}
+use mathlib.Core.List.{List, [], _∷_, _++_}
+use Prim.Native.Nat.{ℕ, zero, suc, _+_, _-_, _*_, _≤_, _<_}
+use native.Mathlib.Nat.{add-zero, zero-add}
+use native.Mathlib.Decide.{decLt, ℕ-discrete}
+use native.Mathlib.Omega.{arith}
+use borrow.Author.Tests.{lt-ltb, le-ltb, eqb-true}
+use lib.ListN.{length, take, drop, getD}
+use lib.Seq.{take-take, getD-take, getD-drop}
+use Rattle.book.specs.declared.Shape.{Shape}
+use Rattle.book.specs.Bounds.{mark}
+use Rattle.book.specs.Check.{tablesQuestion}
+use Rattle.book.specs.Layout.{Book}
+use Rattle.book.specs.Questions.{allZero, unusedOf, unusedFrom}
+use Rattle.book.specs.Tables.{column, bookOf}
+use Rattle.book.specs.View.{sum, counterAt, count, S, R}
+use Rattle.book.proofs.Counts.{few-in-all}
+use Rattle.round_trips.specs.WellFormed.{process, counter, WellFormed}
+use Rattle.round_trips.proofs.Tables.{Checked, tables-taken, of-good}
+use Rattle.round_trips.proofs.View.{view-count, view-sent, view-received}
+use Rattle.round_trips.proofs.Well.{good-well}
+use Rattle.round_trips.proofs.Zeros.{zero-cons, append-zeros}
+use Rattle.line_theory.specs.Sets.{IsBook}
+use Rattle.line_theory.specs.OfTables.{viewOf}
+use Rattle.line_theory.specs.Statements.{AcceptedIsBook}
+
+-- ---- zeros
+
+zero-at : (l : List ℕ) → allZero l ≡ true → (i : ℕ) → getD l i 0 ≡ 0
+zero-at [] z i = refl
+zero-at (v ∷ l) z zero = eqb-true v 0 (zero-cons v l z .0)
+zero-at (v ∷ l) z (suc i) = zero-at l (zero-cons v l z .1) i
+
+-- counts that are zero from place k on add nothing
+sum-held : (k : ℕ) (l : List ℕ) → allZero (drop k l) ≡ true → sum l ≡ sum (take k l)
+unfolding sum
+sum-held zero [] z = refl
+sum-held (suc k) [] z = refl
+sum-held zero (v ∷ l) z = let e = zero-at (v ∷ l) z 0 in let ih = sum-held zero l (zero-cons v l z .1) in omega arith
+sum-held (suc k) (v ∷ l) z = ap (λ x. v + x) (sum-held k l z)
+
+-- ---- the own column
+
+-- of a process whose rows begin the table
+own-of : (n j c : ℕ) (table : List ℕ) → allZero (unusedOf n j c table) ≡ true → (r : ℕ) → r < c → getD table (r * 16 + j) 0 ≡ 0
+unfolding unusedOf
+own-of n j zero table z r h = absurd (omega arith)
+own-of n j (suc c) table z zero h =
+    rw (zero-add j)
+    (eqb-true (getD table j 0) 0 (zero-cons (getD table j 0) (drop n (take 16 table) ++ unusedOf n j c (drop 16 table)) z .0))
+own-of n j (suc c) table z (suc r) h =
+    let rest : List ℕ = unusedOf n j c (drop 16 table) in
+    let later = append-zeros (drop n (take 16 table)) rest (zero-cons (getD table j 0) (drop n (take 16 table) ++ rest) z .1) in
+    let e : suc r * 16 + j ≡ 16 + (r * 16 + j) = omega arith in
+    rw (e, ← getD-drop 16 table (r * 16 + j) 0) (own-of n j c (drop 16 table) (later .1) r (omega arith))
+
+-- of process i after j others
+own-from : (n j : ℕ) (counts table : List ℕ) → allZero (unusedFrom n j counts table) ≡ true → (i r : ℕ) → r < getD counts i 0
+    → getD table ((sum (take i counts) + r) * 16 + (j + i)) 0 ≡ 0
+unfolding unusedFrom sum
+own-from n j [] table z i r h = absurd (omega arith)
+own-from n j (c ∷ counts) table z zero r h =
+    rw (zero-add r, add-zero j)
+    (own-of n j c table (append-zeros (unusedOf n j c table) (unusedFrom n (suc j) counts (drop (c * 16) table)) z .0) r h)
+own-from n j (c ∷ counts) table z (suc i) r h =
+    let before : ℕ = sum (take i counts) in
+    let e : (c + before + r) * 16 + (j + suc i) ≡ c * 16 + ((before + r) * 16 + (suc j + i)) = omega arith in
+    rw (e, ← getD-drop (c * 16) table ((before + r) * 16 + (suc j + i)) 0)
+    (own-from n (suc j) counts (drop (c * 16) table)
+    (append-zeros (unusedOf n j c table) (unusedFrom n (suc j) counts (drop (c * 16) table)) z .1) i r h)
+
+-- ---- the other columns
+
+-- what holds of the own column and of the column of each of the others holds of every process
+by-column : (P : ℕ → Type 0) (n j : ℕ) → j < n → P j → ((k : ℕ) → k < n - 1 → P (column j k)) → (p : ℕ) → p < n → P p
+unfolding column
+by-column P n j h own other p m =
+    elim (decLt p j) [
+      | yes lt ↦ rw (lt-ltb p j lt) at (other p (omega arith))
+      | no ge ↦ elim (ℕ-discrete p j) [ yes e ↦ subst P (sym e) own | no ne ↦ after (omega arith) ]
+    ]
+  where
+    after : j < p → P p
+    after lt =
+        let e : p - 1 + 1 ≡ p = omega arith in
+        rw (le-ltb (p - 1) j (omega arith), e) at (other (p - 1) (omega arith))
+
+-- ---- accepted tables
+
+module _ (shape : Shape) (sent received : List ℕ) where
+  pub accepted-size : tablesQuestion shape sent received ≡ 0 → (1 ≤ shape .n) × (shape .n ≤ 16)
+  accepted-size h = let c = tables-taken shape sent received h in (c .some, c .few)
+
+  pub accepted-lengths : tablesQuestion shape sent received ≡ 0 → (length sent ≡ 4096) × (length received ≡ 4096)
+  accepted-lengths h = let c = tables-taken shape sent received h in (c .sent, c .received)
+
+module _ (shape : Shape) (sent received : List ℕ) (sixteen : length (shape .counts) ≡ 16) (accepted : tablesQuestion shape sent received ≡ 0) where
+  abbrev book : Book
+  book = bookOf shape sent received
+
+  -- the counts of the processes that there are
+  abbrev held : List ℕ
+  held = take (shape .n) (shape .counts)
+
+  checked : Checked shape sent received
+  checked = tables-taken shape sent received accepted
+
+  pub accepted-few : sum (shape .counts) ≤ 256
+  accepted-few = rw (sum-held (shape .n) (shape .counts) (checked .counts-zero)) (few-in-all held (checked .counts))
+
+  pub accepted-absent : (j : ℕ) → shape .n ≤ j → count shape j ≡ 0
+  accepted-absent j h =
+      let e : shape .n + (j - shape .n) ≡ j = omega arith in
+      rw (getD-drop (shape .n) (shape .counts) (j - shape .n) 0, e) at
+      (zero-at (drop (shape .n) (shape .counts)) (checked .counts-zero) (j - shape .n))
+
+  well : WellFormed book
+  well = good-well book (of-good shape sent received sixteen checked)
+
+  -- a process's own column, at its checkpoint r, counted from 0
+  own-entry : (table : List ℕ) → allZero (unusedFrom (shape .n) 0 held table) ≡ true → (j r : ℕ) → j < shape .n
+      → r < count shape j → counterAt (shape .counts) table j (suc r) j ≡ 0
+  own-entry table z j r h m =
+      let back : suc r - 1 ≡ r = omega arith in
+      rw back
+      (rw (take-take j (shape .n) (shape .counts) (omega arith), zero-add j) at
+      (own-from (shape .n) 0 held table z j r (rw (getD-take (shape .n) (shape .counts) j 0 h) m)))
+
+  -- the entries of that checkpoint
+  module _ (j r : ℕ) (h : j < shape .n) (m : r < count shape j) where
+    inside : r < length (process book j)
+    inside = rw (view-count shape sent received sixteen checked j h) at m
+
+    sent-own : S shape sent j (suc r) j ≡ 0
+    sent-own = own-entry sent (checked .sent-zero) j r h m
+
+    received-own : R shape received j (suc r) j ≡ 0
+    received-own = own-entry received (checked .received-zero) j r h m
+
+    sent-of : (k : ℕ) → k < shape .n - 1 → S shape sent j (suc r) (column j k) ≡ counter book j r k
+    sent-of k i = view-sent shape sent received sixteen checked j h r k m i
+
+    received-of : (k : ℕ) → k < shape .n - 1 → R shape received j (suc r) (column j k) ≡ counter book j r (shape .n - 1 + k)
+    received-of k i = view-received shape sent received sixteen checked j h r k m i
+
+  accepted-book : IsBook mark (viewOf shape sent received)
+  accepted-book = record { some = some; rising = rising; below = below; received = at-most; oldest = oldest; own = own }
+    where
+      some : (j : ℕ) → j < shape .n → 1 ≤ count shape j
+      some j h = rw (view-count shape sent received sixteen checked j h) (well .some j h)
+
+      rising : (j r p : ℕ) → j < shape .n → p < shape .n → 1 ≤ r → r < count shape j → S shape sent j r p ≤ S shape sent j (suc r) p
+      rising j zero p h o a m = absurd (omega arith)
+      rising j (suc r) p h o a m =
+          let m′ : r < count shape j = omega arith in
+          by-column (λ q. S shape sent j (suc r) q ≤ S shape sent j (suc (suc r)) q) (shape .n) j h (rw (sent-own j r h m′) (omega arith))
+          (λ k i. rw (sent-of j r h m′ k i, sent-of j (suc r) h m k i) (well .rising j r k h (inside j (suc r) h m) (omega arith))) p o
+
+      below : (j r p : ℕ) → j < shape .n → p < shape .n → 1 ≤ r → r ≤ count shape j → S shape sent j r p < mark
+      below j zero p h o a m = absurd (omega arith)
+      below j (suc r) p h o a m =
+          by-column (λ q. S shape sent j (suc r) q < mark) (shape .n) j h (rw (sent-own j r h m) (omega arith))
+          (λ k i. rw (sent-of j r h m k i) (well .known j r k h (inside j r h m) (omega arith))) p o
+
+      at-most : (j r p : ℕ) → j < shape .n → p < shape .n → 1 ≤ r → r ≤ count shape j → R shape received j r p ≤ mark
+      at-most j zero p h o a m = absurd (omega arith)
+      at-most j (suc r) p h o a m =
+          by-column (λ q. R shape received j (suc r) q ≤ mark) (shape .n) j h (rw (received-own j r h m) (omega arith))
+          (λ k i. let f = well .known j r (shape .n - 1 + k) h (inside j r h m) (omega arith) in rw (received-of j r h m k i) (omega arith)) p o
+
+      oldest : (j p : ℕ) → j < shape .n → p < shape .n → R shape received j 1 p ≡ 0
+      oldest j p h o =
+          by-column (λ q. R shape received j 1 q ≡ 0) (shape .n) j h (received-own j 0 h (some j h))
+          (λ k i. received-of j 0 h (some j h) k i ∙ well .oldest j (shape .n - 1 + k) h (omega arith)) p o
+
+      own : (j r : ℕ) → j < shape .n → 1 ≤ r → r ≤ count shape j → (S shape sent j r j ≡ 0) × (R shape received j r j ≡ 0)
+      own j zero h a m = absurd (omega arith)
+      own j (suc r) h a m = (sent-own j r h m, received-own j r h m)
+
+pub accepted-is-book : AcceptedIsBook
+accepted-is-book = accepted-book

@@ -1,0 +1,7 @@
+pub mod Over
+pub mod Tests
+pub mod Steps
+pub mod Line
+pub mod StepsBack
+pub mod Accepted
+pub mod Theorems

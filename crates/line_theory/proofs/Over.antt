@@ -1,0 +1,191 @@
+-- Laws of functions of the numbers below a bound: true of all of them, added up, as a list; and of the last number at which
+-- one is true.
+use mathlib.Core.Path.{_≡_, refl, sym, ap, _∙_}
+use mathlib.Core.Bool.{Bool, true, false, true≢false}
+use Prim.Native.Nat.{ℕ, zero, suc, _+_, _-_, _≤_, _<_}
+use native.Mathlib.Decide.{decLt}
+use native.Mathlib.Omega.{arith}
+use lib.ListN.{length, getD}
+use Rattle.book.proofs.Tests.{and-both, both-and}
+use Rattle.line_theory.specs.Over.{allTo, sumTo, tabFrom, tab, lastTo}
+
+-- ---- true of all
+
+pub all-in : (k : ℕ) (f : ℕ → Bool) → allTo k f ≡ true → (i : ℕ) → i < k → f i ≡ true
+unfolding allTo
+all-in zero f h i m = absurd (omega arith)
+all-in (suc k) f h i m =
+    let b = and-both (allTo k f) (f k) h in
+    elim (decLt i k) [ yes l ↦ all-in k f (b .0) i l | no l ↦ let e : i ≡ k = omega arith in rw e (b .1) ]
+
+pub all-out : (k : ℕ) (f : ℕ → Bool) → ((i : ℕ) → i < k → f i ≡ true) → allTo k f ≡ true
+unfolding allTo
+all-out zero f h = refl
+all-out (suc k) f h = both-and (allTo k f) (f k) (all-out k f (λ i m. h i (omega arith))) (h k (omega arith))
+
+pub all-not : (k : ℕ) (f : ℕ → Bool) (i : ℕ) → i < k → f i ≡ false → allTo k f ≡ false
+all-not k f i m h = go (allTo k f) refl
+  where
+    go : (b : Bool) → allTo k f ≡ b → allTo k f ≡ false
+    go true e = absurd (true≢false (sym (all-in k f e i m) ∙ h))
+    go false e = e
+
+-- where it is not true of all, one of them shows it
+pub all-witness : (k : ℕ) (f : ℕ → Bool) → allTo k f ≡ false → (i : ℕ) × (i < k) × (f i ≡ false)
+unfolding allTo
+all-witness zero f h = absurd (true≢false h)
+all-witness (suc k) f h = go (allTo k f) refl (all-witness k f)
+  where
+    go : (b : Bool) → allTo k f ≡ b → (allTo k f ≡ false → (i : ℕ) × (i < k) × (f i ≡ false)) → (i : ℕ) × (i < suc k) × (f i ≡ false)
+    go true e ih = (k, omega arith, rw e at h)
+    go false e ih = let w = ih e in (w .0, omega arith, w .2)
+
+-- ---- added up
+
+pub sum-ext : (k : ℕ) (c d : ℕ → ℕ) → ((i : ℕ) → i < k → c i ≡ d i) → sumTo k c ≡ sumTo k d
+unfolding sumTo
+sum-ext zero c d h = refl
+sum-ext (suc k) c d h = rw (sum-ext k c d (λ i m. h i (omega arith)), h k (omega arith))
+
+pub sum-le : (k : ℕ) (c d : ℕ → ℕ) → ((i : ℕ) → i < k → c i ≤ d i) → sumTo k c ≤ sumTo k d
+unfolding sumTo
+sum-le zero c d h = omega arith
+sum-le (suc k) c d h =
+    let ih : sumTo k c ≤ sumTo k d = sum-le k c d (λ i m. h i (omega arith)) in
+    omega (arith, h k (omega arith))
+
+-- nowhere more, and no less added up: the same
+pub sum-same : (k : ℕ) (c d : ℕ → ℕ) → ((i : ℕ) → i < k → c i ≤ d i) → sumTo k d ≤ sumTo k c → (i : ℕ) → i < k → c i ≡ d i
+unfolding sumTo
+sum-same zero c d h s i m = absurd (omega arith)
+sum-same (suc k) c d h s i m =
+    let low : (i : ℕ) → i < k → c i ≤ d i = λ i m. h i (omega arith) in
+    let part : sumTo k c ≤ sumTo k d = sum-le k c d low in
+    let last : c k ≤ d k = h k (omega arith) in
+    elim (decLt i k) [
+      | yes l ↦ sum-same k c d low (omega arith) i l
+      | no l ↦ let e : i ≡ k = omega arith in rw e (omega arith)
+    ]
+
+-- each is at most the sum
+pub sum-at : (k : ℕ) (c : ℕ → ℕ) (i : ℕ) → i < k → c i ≤ sumTo k c
+unfolding sumTo
+sum-at zero c i m = absurd (omega arith)
+sum-at (suc k) c i m = elim (decLt i k) [
+  | yes l ↦ let ih : c i ≤ sumTo k c = sum-at k c i l in omega arith
+  | no l ↦ let e : i ≡ k = omega arith in rw e (omega arith)
+]
+
+-- one less at one point
+pub sum-less : (k j : ℕ) (c c′ : ℕ → ℕ) → j < k → c′ j + 1 ≡ c j → ((i : ℕ) → i < k → (i ≡ j → ⊥) → c′ i ≡ c i)
+    → sumTo k c′ + 1 ≡ sumTo k c
+unfolding sumTo
+sum-less zero j c c′ m one others = absurd (omega arith)
+sum-less (suc k) j c c′ m one others = elim (decLt j k) [
+  | yes l ↦
+      let ih : sumTo k c′ + 1 ≡ sumTo k c = sum-less k j c c′ l one (λ i n o. others i (omega arith) o) in
+      let last : c′ k ≡ c k = others k (omega arith) (omega arith) in
+      omega arith
+  | no l ↦
+      let e : j ≡ k = omega arith in
+      let part : sumTo k c′ ≡ sumTo k c = sum-ext k c′ c (λ i n. others i (omega arith) (omega arith)) in
+      let last : c′ k + 1 ≡ c k = rw e at one in
+      omega arith
+]
+
+-- what is missing from a larger one
+pub sum-missing : (k : ℕ) (c d : ℕ → ℕ) → ((i : ℕ) → i < k → c i ≤ d i) → sumTo k (λ i. d i - c i) + sumTo k c ≡ sumTo k d
+unfolding sumTo
+sum-missing zero c d h = refl
+sum-missing (suc k) c d h =
+    let ih : sumTo k (λ i. d i - c i) + sumTo k c ≡ sumTo k d = sum-missing k c d (λ i m. h i (omega arith)) in
+    omega (arith, h k (omega arith))
+
+-- ---- as a list
+
+length-from : {A : Type 0} (i k : ℕ) (f : ℕ → A) → length (tabFrom i k f) ≡ k
+unfolding tabFrom
+length-from i zero f = refl
+length-from i (suc k) f = let ih = length-from (suc i) k f in omega arith
+
+pub length-tab : {A : Type 0} (k : ℕ) (f : ℕ → A) → length (tab k f) ≡ k
+length-tab k f = length-from 0 k f
+
+getD-from : {A : Type 0} (i k : ℕ) (f : ℕ → A) (j : ℕ) (d : A) → j < k → getD (tabFrom i k f) j d ≡ f (i + j)
+unfolding tabFrom
+getD-from i zero f j d m = absurd (omega arith)
+getD-from i (suc k) f zero d m = let e : i + 0 ≡ i = omega arith in rw e
+getD-from i (suc k) f (suc j) d m = let e : i + suc j ≡ suc i + j = omega arith in rw e (getD-from (suc i) k f j d (omega arith))
+
+pub getD-tab : {A : Type 0} (k : ℕ) (f : ℕ → A) (i : ℕ) (d : A) → i < k → getD (tab k f) i d ≡ f i
+getD-tab k f i d m = let e : 0 + i ≡ i = omega arith in rw e at (getD-from 0 k f i d m)
+
+from-ext : {A : Type 0} (i k : ℕ) (f g : ℕ → A) → ((j : ℕ) → j < k → f (i + j) ≡ g (i + j)) → tabFrom i k f ≡ tabFrom i k g
+unfolding tabFrom
+from-ext i zero f g h = refl
+from-ext i (suc k) f g h =
+    let e : i + 0 ≡ i = omega arith in
+    let first : f i ≡ g i = rw e at (h 0 (omega arith)) in
+    rw (first, from-ext (suc i) k f g (λ j m. let s : i + suc j ≡ suc i + j = omega arith in rw s at (h (suc j) (omega arith))))
+
+pub tab-ext : {A : Type 0} (k : ℕ) (f g : ℕ → A) → ((i : ℕ) → i < k → f i ≡ g i) → tab k f ≡ tab k g
+tab-ext k f g h = from-ext 0 k f g (λ j m. let e : 0 + j ≡ j = omega arith in rw e (h j m))
+
+-- ---- the last at which it is true
+
+pub last-yes : (f : ℕ → Bool) (k : ℕ) → f (suc k) ≡ true → lastTo f (suc k) ≡ suc k
+unfolding lastTo
+last-yes f k h = rw (lastTo, h)
+
+pub last-no : (f : ℕ → Bool) (k : ℕ) → f (suc k) ≡ false → lastTo f (suc k) ≡ lastTo f k
+unfolding lastTo
+last-no f k h = rw (lastTo, h)
+
+pub last-back : (f : ℕ → Bool) (k : ℕ) → lastTo f k ≤ k
+unfolding lastTo
+last-back f zero = omega arith
+last-back f (suc k) = go (f (suc k)) refl (last-back f k)
+  where
+    go : (b : Bool) → f (suc k) ≡ b → lastTo f k ≤ k → lastTo f (suc k) ≤ suc k
+    go true e ih = omega (arith, last-yes f k e)
+    go false e ih = omega (arith, last-no f k e)
+
+pub last-true : (f : ℕ → Bool) (k : ℕ) → 1 ≤ lastTo f k → f (lastTo f k) ≡ true
+unfolding lastTo
+last-true f zero m = absurd (omega arith)
+last-true f (suc k) m = go (f (suc k)) refl (last-true f k)
+  where
+    go : (b : Bool) → f (suc k) ≡ b → (1 ≤ lastTo f k → f (lastTo f k) ≡ true) → f (lastTo f (suc k)) ≡ true
+    go true e ih = rw (last-yes f k e) e
+    go false e ih = rw (last-no f k e) (ih (omega (arith, last-no f k e)))
+
+pub last-later : (f : ℕ → Bool) (k s : ℕ) → lastTo f k < s → s ≤ k → f s ≡ false
+unfolding lastTo
+last-later f zero s m n = absurd (omega arith)
+last-later f (suc k) s m n = go (f (suc k)) refl (last-later f k s)
+  where
+    go : (b : Bool) → f (suc k) ≡ b → (lastTo f k < s → s ≤ k → f s ≡ false) → f s ≡ false
+    go true e ih = absurd (omega (arith, last-yes f k e))
+    go false e ih = elim (decLt k s) [
+      | yes l ↦ let at : s ≡ suc k = omega arith in rw at e
+      | no l ↦ ih (omega (arith, last-no f k e)) (omega arith)
+    ]
+
+-- none after it is true
+pub last-from : (f : ℕ → Bool) (k s : ℕ) → f s ≡ true → s ≤ k → s ≤ lastTo f k
+last-from f k s h m = elim (decLt (lastTo f k) s) [
+  | yes l ↦ absurd (true≢false (sym h ∙ last-later f k s l m))
+  | no l ↦ omega arith
+]
+
+-- From the last at which one is true, on to the last at which a stronger one is: it is the last of those from the start.
+pub last-again : (f g : ℕ → Bool) → ((s : ℕ) → g s ≡ true → f s ≡ true) → (k : ℕ) → lastTo g (lastTo f k) ≡ lastTo g k
+unfolding lastTo
+last-again f g weaker zero = refl
+last-again f g weaker (suc k) = go (f (suc k)) refl (g (suc k)) refl (last-again f g weaker k)
+  where
+    go : (a : Bool) → f (suc k) ≡ a → (b : Bool) → g (suc k) ≡ b → lastTo g (lastTo f k) ≡ lastTo g k
+        → lastTo g (lastTo f (suc k)) ≡ lastTo g (suc k)
+    go true e b e′ ih = ap (lastTo g) (last-yes f k e)
+    go false e true e′ ih = absurd (true≢false (sym (weaker (suc k) e′) ∙ e))
+    go false e false e′ ih = ap (lastTo g) (last-no f k e) ∙ (ih ∙ sym (last-no g k e′))

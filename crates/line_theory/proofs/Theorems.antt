@@ -1,0 +1,72 @@
+-- The statements of `specs/Statements.antt` hold.
+-- Assumes nothing.
+use Rattle.line_theory.specs.Statements.{
+  TestIsPairwise,
+  NoHasPair,
+  LineIsLine,
+  OnlyLine,
+  CutIsBook,
+  CutLineEarlier,
+  CutAboveKeepsLine,
+  PassedIsDistance,
+  NewestIsNewest,
+  NewestFromCandidate,
+  NotKnownPermits,
+  StepStaysAbove,
+  RefusedIsAbove,
+  PermittedIsConsistent,
+  ConsistentAboveIsLine,
+  AcceptedIsBook,
+}
+use Rattle.line_theory.proofs.Tests
+use Rattle.line_theory.proofs.Steps
+use Rattle.line_theory.proofs.Line
+use Rattle.line_theory.proofs.Accepted
+
+pub test-is-pairwise : TestIsPairwise
+test-is-pairwise = Tests.test-is-pairwise
+
+pub no-has-pair : NoHasPair
+no-has-pair = Tests.no-has-pair
+
+pub line-is-line : LineIsLine
+line-is-line = Line.line-is-line
+
+pub only-line : OnlyLine
+only-line = Line.only-line
+
+pub cut-is-book : CutIsBook
+cut-is-book = Line.cut-is-book
+
+pub cut-line-earlier : CutLineEarlier
+cut-line-earlier = Line.cut-line-earlier
+
+pub cut-above-keeps-line : CutAboveKeepsLine
+cut-above-keeps-line = Line.cut-above-keeps-line
+
+pub passed-is-distance : PassedIsDistance
+passed-is-distance = Line.passed-is-distance
+
+pub newest-is-newest : NewestIsNewest
+newest-is-newest = Steps.newest-is-newest
+
+pub newest-from-candidate : NewestFromCandidate
+newest-from-candidate = Steps.newest-from-candidate
+
+pub not-known-permits : NotKnownPermits
+not-known-permits = Steps.not-known-permits
+
+pub step-stays-above : StepStaysAbove
+step-stays-above = Line.step-stays-above
+
+pub refused-is-above : RefusedIsAbove
+refused-is-above = Line.refused-is-above
+
+pub permitted-is-consistent : PermittedIsConsistent
+permitted-is-consistent = Tests.permitted-is-consistent
+
+pub consistent-above-is-line : ConsistentAboveIsLine
+consistent-above-is-line = Line.consistent-above-is-line
+
+pub accepted-is-book : AcceptedIsBook
+accepted-is-book = Accepted.accepted-is-book

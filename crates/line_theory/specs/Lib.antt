@@ -1,0 +1,5 @@
+pub mod Over
+pub mod Sets
+pub mod Search
+pub mod OfTables
+pub mod Statements
