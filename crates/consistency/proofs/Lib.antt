@@ -1,0 +1,8 @@
+pub mod Fills
+pub mod Permits
+pub mod There
+pub mod Sixteen
+pub mod Flags
+pub mod StepsBack
+pub mod Calls
+pub mod Theorems
