@@ -3,17 +3,23 @@
 use mathlib.Core.Path.{_≡_}
 use mathlib.Core.List.{List, [], _∷_, _++_}
 use Prim.Native.Nat.{ℕ, _-_}
-use lib.ListN.{length, replicate}
+use lib.ListN.{length, replicate, getD}
 use Rattle.varint.specs.declared.Numeral.the-variants as numeral
 use Rattle.varint.specs.Number.{encode, readNumber}
 use Rattle.book.specs.declared.Shape.{Shape}
+use Rattle.book.specs.declared.Checkpoint.{Checkpoint}
 use Rattle.book.specs.declared.Answer.{Answer}
 use Rattle.book.specs.declared.Answer.the-variants as answer
 use Rattle.book.specs.Bounds.{groups, largest, entries, mostProcesses}
 use Rattle.book.specs.Tables.{padded}
 use Rattle.book.specs.View.{S, R}
 use Rattle.book.specs.InTurn.{answerTo}
+use Rattle.book.specs.Check.{tablesQuestion}
 use Rattle.book.specs.Read.{noShape, readQuestion, shapeRead, sentRead, receivedRead}
+use Rattle.consistency.specs.declared.SetAnswer.{SetAnswer}
+use Rattle.consistency.specs.declared.SetAnswer.the-variants as test
+use Rattle.consistency.specs.Set.{Tested}
+use Rattle.consistency.specs.Line.{checkpoints, lineFound, passedFound}
 
 -- ---- what can be claimed
 
@@ -30,6 +36,10 @@ pub data Example : Type 0 where
   AcceptedAs : List ℕ → ℕ → List ℕ → Example
   -- in a book, process j's checkpoint r has sent partner p so many messages, or received so many from it
   HasSent HasReceived : List ℕ → ℕ → ℕ → ℕ → ℕ → Example
+  -- in a book, a set is not consistent, and this pair alone can be shown
+  NotConsistent : List ℕ → List ℕ → ℕ → ℕ → Example
+  -- in a book, this line is found, with T
+  HasLine : List ℕ → List ℕ → ℕ → Example
 
 -- the tables that a read is lent
 abbrev pub lent : List ℕ
@@ -39,6 +49,22 @@ lent = replicate entries 0
 abbrev pub answered : List ℕ → Answer × Shape
 answered book = (answerTo (readQuestion book lent lent), shapeRead book lent lent)
 
+-- a set of checkpoints, absent processes zero
+abbrev pub setOf : List ℕ → List Checkpoint
+setOf numbers = checkpoints (λ j. getD numbers j 0)
+
+-- what holds of an answer to a test of a set, in the tables of a book
+abbrev pub answers : List ℕ → List ℕ → SetAnswer → Type 0
+answers book set answer = Tested (shapeRead book lent lent) (sentRead book lent lent) (receivedRead book lent lent) (setOf set) answer
+
+-- what a search for the line answers in the tables of a book, with the line and T beside it
+abbrev pub found : List ℕ → Answer × List Checkpoint × ℕ
+found book =
+    let shape : Shape = shapeRead book lent lent in
+    let sent : List ℕ = sentRead book lent lent in
+    let received : List ℕ = receivedRead book lent lent in
+    (answerTo (tablesQuestion shape sent received), lineFound shape sent received, passedFound shape sent received)
+
 abbrev pub holds : Example → Type 0
 holds (HasBytes n bytes) = encode n ≡ bytes
 holds (IsNumber bytes n) = readNumber groups largest bytes 0 ≡ numeral.Number n (length bytes)
@@ -47,6 +73,10 @@ holds (RefusedBy book question) = answered book ≡ (answer.Refused question, no
 holds (AcceptedAs book n counts) = answered book ≡ (answer.Accepted, record { n = n; counts = padded mostProcesses counts })
 holds (HasSent book j r p v) = S (shapeRead book lent lent) (sentRead book lent lent) (j - 1) r (p - 1) ≡ v
 holds (HasReceived book j r p v) = R (shapeRead book lent lent) (receivedRead book lent lent) (j - 1) r (p - 1) ≡ v
+holds (NotConsistent book set j p) =
+    let shown : SetAnswer = test.AtFault (record { 0 = j }) (record { 0 = p }) in
+    answers book set shown × ((answer : SetAnswer) → answers book set answer → answer ≡ shown)
+holds (HasLine book line passed) = found book ≡ (answer.Accepted, setOf line, passed)
 
 -- all of a list hold
 infixr 5 _also_
@@ -63,6 +93,13 @@ k1 =
     ∷ 0x02 ∷ 0x00 ∷ 0x00 ∷ 0x00 ∷ 0x00 ∷ 0x03 ∷ 0x00 ∷ 0x00 ∷ 0x00
     ∷ 0x02 ∷ 0x00 ∷ 0x00 ∷ 0x00 ∷ 0x00 ∷ 0x07 ∷ 0x00 ∷ 0x00 ∷ 0x00 ∷ []
 
+-- K example 6
+abbrev pub k6 : List ℕ
+k6 =
+    0x03 ∷ 0x04 ∷ 0x00 ∷ 0x00 ∷ 0x00 ∷ 0x00 ∷ 0x00 ∷ 0x01 ∷ 0x00 ∷ 0x00 ∷ 0x01 ∷ 0x01 ∷ 0x01 ∷ 0x00 ∷ 0x02 ∷ 0x01 ∷ 0x02 ∷ 0x00
+    ∷ 0x04 ∷ 0x00 ∷ 0x00 ∷ 0x00 ∷ 0x00 ∷ 0x00 ∷ 0x00 ∷ 0x01 ∷ 0x00 ∷ 0x01 ∷ 0x00 ∷ 0x02 ∷ 0x00 ∷ 0x02 ∷ 0x00 ∷ 0x03 ∷ 0x00
+    ∷ 0x02 ∷ 0x00 ∷ 0x00 ∷ 0x00 ∷ 0x00 ∷ 0x00 ∷ 0x00 ∷ 0x01 ∷ 0x00 ∷ []
+
 -- two processes, the first with two checkpoints: these bytes are what the later one has sent the second process
 abbrev pub laterCounter : List ℕ → List ℕ
 laterCounter bytes = 0x02 ∷ 0x02 ∷ 0x00 ∷ 0x00 ∷ (bytes ++ (0x00 ∷ 0x01 ∷ 0x00 ∷ 0x00 ∷ []))
@@ -75,12 +112,18 @@ abbrev pub starred : List Example
 starred =
     RefusedBy [] 3
     ∷ AcceptedAs (0x01 ∷ 0x03 ∷ []) 1 (3 ∷ [])
+    ∷ HasLine (0x01 ∷ 0x03 ∷ []) (3 ∷ []) 0
     ∷ AcceptedAs (0x02 ∷ 0x01 ∷ 0x00 ∷ 0x00 ∷ 0x01 ∷ 0x00 ∷ 0x00 ∷ []) 2 (1 ∷ 1 ∷ [])
+    ∷ HasLine (0x02 ∷ 0x01 ∷ 0x00 ∷ 0x00 ∷ 0x01 ∷ 0x00 ∷ 0x00 ∷ []) (1 ∷ 1 ∷ []) 0
     ∷ AcceptedAs k1 3 (2 ∷ 2 ∷ 2 ∷ [])
     ∷ HasReceived k1 1 2 2 4
     ∷ HasReceived k1 1 2 3 5
     ∷ HasSent k1 2 2 1 3
     ∷ HasSent k1 3 2 1 7
+    ∷ NotConsistent k1 (2 ∷ 2 ∷ 2 ∷ []) 1 2
+    ∷ HasLine k1 (1 ∷ 2 ∷ 2 ∷ []) 1
+    ∷ AcceptedAs k6 3 (4 ∷ 4 ∷ 2 ∷ [])
+    ∷ HasLine k6 (2 ∷ 1 ∷ 2 ∷ []) 5
     ∷ HasBytes 127 (0x7F ∷ [])
     ∷ IsNumber (0x7F ∷ []) 127
     ∷ HasBytes 128 (0x80 ∷ 0x01 ∷ [])
