@@ -1,17 +1,18 @@
 // Reads lines of books from standard input (the book, then what a read of it must answer), and prints for each line what
-// a read does answer: the question that refuses, or 0, n and the counts. Only the book is taken from a line. Where
-// something else that must hold does not, the line ends in an exclamation mark and a word.
+// a read does answer: the question that refuses, or 0, n and the counts, and then the line that is found and T. Only the
+// book is taken from a line. Where something else that must hold does not, the line ends in an exclamation mark and a
+// word.
 use book::Answer;
+use book::Checkpoint;
 use book::Counter;
 use book::Shape;
 use book::WriteAnswer;
+use consistency::SetAnswer;
 use libc::STDIN_FILENO;
 use libc::STDOUT_FILENO;
-use vectors::BookText;
-use vectors::FoundBook;
-ghost use Prim.Native.Nat.{_≤_};
+use vectors::BookBytes;
+ghost use Prim.Native.Nat.{_≤_, _<_};
 ghost use lib.ListN.{length};
-ghost use Rattle.vectors.specs.Text.{Inside};
 
 // What stands in lent tables and buffers before a call.
 const IN_SENT: Counter = 2863311530;
@@ -23,11 +24,6 @@ const IN_BUFFER: u8 = 170;
 // More than the longest accepted book.
 const BUFFER: usize = 65600;
 
-// The longest input, and the longest book of a line: larger than any that is accepted.
-const TEXT: usize = 1048576;
-
-const BOOK: usize = 262144;
-
 fn print_number(v: u64) {
     io::write_all(STDOUT_FILENO, b" ");
     io::print_decimal(STDOUT_FILENO, v);
@@ -38,13 +34,6 @@ fn expect(holds: bool, word: &[u8]) {
     if !holds {
         io::write_all(STDOUT_FILENO, b" !");
         io::write_all(STDOUT_FILENO, word);
-    }
-}
-
-fn question_of(answer: Answer) -> u32 {
-    match answer {
-        Answer::Accepted => 0,
-        Answer::Refused(question) => question,
     }
 }
 
@@ -99,7 +88,7 @@ fn reads(book: &[u8], shape: Shape, sent: &[Counter], received: &[Counter]) -> b
     let again = reader::read(book, &mut sent_again, &mut received_again);
     let answer = again.answer;
     let shape_again = again.shape;
-    question_of(answer) == 0
+    vectors::question_of(answer) == 0
         && vectors::same_shape(shape, shape_again)
         && vectors::same_entries(sent, &sent_again)
         && vectors::same_entries(received, &received_again)
@@ -121,7 +110,7 @@ fn reads_again(shape: Shape, sent: &[Counter], received: &[Counter]) -> bool {
 // What the calls on an accepted book's tables must give.
 fn expect_accepted(book: &[u8], shape: Shape, sent: &[Counter], received: &[Counter]) {
     expect(
-        question_of(tables::check(shape, sent, received)) == 0,
+        vectors::question_of(tables::check(shape, sent, received)) == 0,
         b"check",
     );
     let n = book.len();
@@ -143,11 +132,96 @@ fn refuses_lengths(book: &[u8], question: u32) -> bool {
     let second = reader::read(book, &mut table, &mut long);
     let in_sent = first.answer;
     let in_received = second.answer;
-    question_of(in_sent) == question
-        && question_of(in_received) == question
+    vectors::question_of(in_sent) == question
+        && vectors::question_of(in_received) == question
         && vectors::same_entries(&short, &[IN_SENT; 4095])
         && vectors::same_entries(&long, &[IN_RECEIVED; 4097])
         && vectors::same_entries(&table, &[IN_SENT; 4096])
+}
+
+// Is each checkpoint of a set from a place on 0?
+fn none_from(set: [Checkpoint; 16], from: usize) -> bool {
+    let mut j = from;
+    while j < 16 {
+        let r = set[j];
+        if r.0 != 0 {
+            return false;
+        }
+        j += 1;
+    }
+    true
+}
+
+fn is_consistent(answer: SetAnswer) -> bool {
+    match answer {
+        SetAnswer::Consistent => true,
+        SetAnswer::AtFault(_, _) => false,
+        SetAnswer::Refused(_) => false,
+    }
+}
+
+fn is_at_fault(answer: SetAnswer) -> bool {
+    match answer {
+        SetAnswer::Consistent => false,
+        SetAnswer::AtFault(_, _) => true,
+        SetAnswer::Refused(_) => false,
+    }
+}
+
+// With the next checkpoint of process j, which counts from 0, the line is at fault; or there is none.
+fn is_latest_of(
+    shape: Shape,
+    sent: &[Counter],
+    received: &[Counter],
+    line: [Checkpoint; 16],
+    j: usize,
+    newest: usize,
+) -> bool
+    requires { ⌜ j < 16 ⌝ }
+{
+    let r = line[j];
+    if newest <= r.0 {
+        return true;
+    }
+    let mut later = line;
+    later[j] = Checkpoint(r.0 + 1);
+    is_at_fault(consistency::test_set(shape, sent, received, later))
+}
+
+// No consistent set has a newer checkpoint than the line, of any process.
+fn is_latest(shape: Shape, sent: &[Counter], received: &[Counter], line: [Checkpoint; 16]) -> bool {
+    let counts = shape.counts;
+    let mut j = 0;
+    while j < 16 {
+        if !is_latest_of(shape, sent, received, line, j, counts[j]) {
+            return false;
+        }
+        j += 1;
+    }
+    true
+}
+
+// Prints the line of accepted tables, and T.
+fn try_finder(shape: Shape, sent: &[Counter], received: &[Counter]) {
+    let found = consistency::find_line(shape, sent, received);
+    let answer = found.answer;
+    let line = found.line;
+    print_line(shape.n, line, found.passed);
+    expect(vectors::question_of(answer) == 0, b"find");
+    expect(none_from(line, shape.n), b"absent");
+    expect(
+        is_consistent(consistency::test_set(shape, sent, received, line)),
+        b"line",
+    );
+    expect(is_latest(shape, sent, received, line), b"later");
+}
+
+// Tables without a process are refused by question 4, and then there is no line.
+fn finds_nothing(shape: Shape, sent: &[Counter], received: &[Counter]) -> bool {
+    let found = consistency::find_line(shape, sent, received);
+    let answer = found.answer;
+    let line = found.line;
+    vectors::question_of(answer) == 4 && none_from(line, 0) && found.passed == 0
 }
 
 // A refusal has zeros for a shape, and leaves the tables as they were.
@@ -177,6 +251,20 @@ fn print_shape(shape: Shape) {
     }
 }
 
+// The checkpoint numbers of the n processes, and how many checkpoints are newer.
+fn print_line(n: usize, line: [Checkpoint; 16], passed: usize) {
+    if 16 < n {
+        return;
+    }
+    let mut j = 0;
+    while j < n {
+        let r = line[j];
+        print_number(r.0 as u64);
+        j += 1;
+    }
+    print_number(passed as u64);
+}
+
 // What refuses a read into tables of another length.
 fn length_question(book: &[u8]) -> u32 {
     if book::MOST_BYTES < book.len() { 1 } else { 2 }
@@ -192,43 +280,29 @@ fn try_book(book: &[u8]) {
         Answer::Refused(question) => {
             io::print_decimal(STDOUT_FILENO, question as u64);
             expect_unchanged(shape, &sent, &received);
+            expect(finds_nothing(shape, &sent, &received), b"refused");
         }
         Answer::Accepted => {
             print_shape(shape);
+            try_finder(shape, &sent, &received);
             expect_accepted(book, shape, &sent, &received);
         }
     }
     expect(refuses_lengths(book, length_question(book)), b"lengths");
 }
 
-// The large buffers are made by functions of their own, so that no proof meets their many bytes one by one.
-fn book_buffer() -> [u8; BOOK] {
-    [0; BOOK]
-}
-
-// The book of a line.
-fn try_text(text: &[u8], book: BookText)
-    requires { ⌜ Inside (now text) book ⌝ }
-{
-    let mut bytes = book_buffer();
-    let n = book.length;
-    if BOOK < n {
-        io::write_all(STDOUT_FILENO, b"? ");
-        return;
-    }
-    vectors::put_book(text, book, &mut bytes);
-    let part = vectors::part_of(n, &bytes);
-    try_book(&bytes[..part]);
-}
-
 fn try_line(text: &[u8], from: usize, to: usize)
     requires { ⌜ (from ≤ to) × (to ≤ length (now text)) ⌝ }
 {
+    let mut book = vectors::book_buffer();
     let end = bytes::scan::find(text, from, to, b' ');
-    let found = vectors::book_in(text, from, end);
+    let found = vectors::book_into(text, from, end, &mut book);
     match found {
-        FoundBook::Book(book) => try_text(text, book),
-        FoundBook::Unreadable => {
+        BookBytes::Length(length) => {
+            let n = vectors::part_of(length, &book);
+            try_book(&book[..n]);
+        }
+        BookBytes::Unreadable => {
             io::write_all(STDOUT_FILENO, b"? ");
         }
     }
@@ -247,16 +321,12 @@ fn try_lines(text: &[u8]) {
     }
 }
 
-fn text_buffer() -> [u8; TEXT] {
-    [0; TEXT]
-}
-
 fn main() {
-    let mut text = text_buffer();
+    let mut text = vectors::text_buffer();
     let n = io::read_full(STDIN_FILENO, &mut text);
     try_lines(&text[..n]);
     // a full buffer may have cut the input
-    if n == TEXT {
+    if n == vectors::TEXT {
         io::write_all(STDOUT_FILENO, b"? too long\n");
     }
 }

@@ -8,23 +8,16 @@ use book::Shape;
 use book::WriteAnswer;
 use libc::STDIN_FILENO;
 use libc::STDOUT_FILENO;
-use vectors::BookText;
+use vectors::BookBytes;
 use vectors::Decimal;
-use vectors::FoundBook;
 ghost use Prim.Native.Nat.{_≤_};
 ghost use lib.ListN.{length};
-ghost use Rattle.vectors.specs.Text.{Inside};
 
 // What stands in the buffer before a write.
 const IN_BUFFER: u8 = 170;
 
 // More than the longest accepted book.
 const BUFFER: usize = 65600;
-
-// The longest input, and the longest book of a line: larger than any that is accepted.
-const TEXT: usize = 1048576;
-
-const BOOK: usize = 262144;
 
 // What an edit changes: n, a count, or an entry of a table.
 enum Edit {
@@ -170,13 +163,6 @@ fn make_edits(
     }
 }
 
-fn question_of(answer: Answer) -> u32 {
-    match answer {
-        Answer::Accepted => 0,
-        Answer::Refused(question) => question,
-    }
-}
-
 // A read of the bytes gives this shape and these tables.
 fn reads(book: &[u8], shape: Shape, sent: &[Counter], received: &[Counter]) -> bool {
     let mut sent_again = [7; 4096];
@@ -184,7 +170,7 @@ fn reads(book: &[u8], shape: Shape, sent: &[Counter], received: &[Counter]) -> b
     let again = reader::read(book, &mut sent_again, &mut received_again);
     let answer = again.answer;
     let shape_again = again.shape;
-    question_of(answer) == 0
+    vectors::question_of(answer) == 0
         && vectors::same_shape(shape, shape_again)
         && vectors::same_entries(sent, &sent_again)
         && vectors::same_entries(received, &received_again)
@@ -210,12 +196,12 @@ fn writes_alike(question: u32, shape: Shape, sent: &[Counter], received: &[Count
 
 // Tables of another length are refused by question 2.
 fn refuses_lengths(shape: Shape, sent: &[Counter], received: &[Counter]) -> bool {
-    question_of(tables::check(shape, &[0; 4095], received)) == 2
-        && question_of(tables::check(shape, sent, &[0; 4097])) == 2
+    vectors::question_of(tables::check(shape, &[0; 4095], received)) == 2
+        && vectors::question_of(tables::check(shape, sent, &[0; 4097])) == 2
 }
 
 fn try_tables(shape: Shape, sent: &[Counter], received: &[Counter]) {
-    let question = question_of(tables::check(shape, sent, received));
+    let question = vectors::question_of(tables::check(shape, sent, received));
     io::print_decimal(STDOUT_FILENO, question as u64);
     expect(writes_alike(question, shape, sent, received), b"write");
     expect(refuses_lengths(shape, sent, received), b"lengths");
@@ -231,48 +217,27 @@ fn try_edits(book: &[u8], text: &[u8], from: usize, to: usize)
     let answer = read.answer;
     let shape = read.shape;
     let edited = make_edits(text, from, to, shape, &mut sent, &mut received);
-    if question_of(answer) != 0 || !edited.made {
+    if vectors::question_of(answer) != 0 || !edited.made {
         io::write_all(STDOUT_FILENO, b"? ");
         return;
     }
     try_tables(edited.shape, &sent, &received);
 }
 
-// The large buffers are made by functions of their own, so that no proof meets their many bytes one by one.
-fn book_buffer() -> [u8; BOOK] {
-    [0; BOOK]
-}
-
-// The book of a line, and its edits from a place on.
-fn try_text(text: &[u8], book: BookText, from: usize, to: usize)
-    requires { ⌜ Inside (now text) book ⌝ }
-    requires { ⌜ (from ≤ to) × (to ≤ length (now text)) ⌝ }
-{
-    let mut bytes = book_buffer();
-    let n = book.length;
-    if BOOK < n {
-        io::write_all(STDOUT_FILENO, b"? ");
-        return;
-    }
-    vectors::put_book(text, book, &mut bytes);
-    let part = vectors::part_of(n, &bytes);
-    try_edits(&bytes[..part], text, from, to);
-}
-
 fn try_line(text: &[u8], from: usize, to: usize)
     requires { ⌜ (from ≤ to) × (to ≤ length (now text)) ⌝ }
 {
+    let mut book = vectors::book_buffer();
     let end = bytes::scan::find(text, from, to, b' ');
-    if end < to {
-        let found = vectors::book_in(text, from, end);
-        match found {
-            FoundBook::Book(book) => try_text(text, book, end + 1, to),
-            FoundBook::Unreadable => {
-                io::write_all(STDOUT_FILENO, b"? ");
-            }
+    let found = vectors::book_into(text, from, end, &mut book);
+    match found {
+        BookBytes::Length(length) => {
+            let n = vectors::part_of(length, &book);
+            try_edits(&book[..n], text, vectors::next_field(end, to), to);
         }
-    } else {
-        io::write_all(STDOUT_FILENO, b"? ");
+        BookBytes::Unreadable => {
+            io::write_all(STDOUT_FILENO, b"? ");
+        }
     }
     io::write_all(STDOUT_FILENO, b"\n");
 }
@@ -289,16 +254,12 @@ fn try_lines(text: &[u8]) {
     }
 }
 
-fn text_buffer() -> [u8; TEXT] {
-    [0; TEXT]
-}
-
 fn main() {
-    let mut text = text_buffer();
+    let mut text = vectors::text_buffer();
     let n = io::read_full(STDIN_FILENO, &mut text);
     try_lines(&text[..n]);
     // a full buffer may have cut the input
-    if n == TEXT {
+    if n == vectors::TEXT {
         io::write_all(STDOUT_FILENO, b"? too long\n");
     }
 }

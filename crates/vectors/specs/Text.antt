@@ -4,11 +4,15 @@ use mathlib.Core.Bool.{Bool, true, false, cond, _&&_}
 use mathlib.Core.List.{List, [], _∷_, _++_}
 use Prim.Native.Nat.{ℕ, zero, suc, _+_, _-_, _*_, _≤_, min}
 use lib.ListN.{length, take, getD}
-use lib.Seq.{slice}
+use lib.Seq.{slice, sets}
 use lib.Dec.{ltb}
+use Rattle.book.specs.declared.Answer.{Answer}
+use Rattle.book.specs.declared.Answer.the-variants.{Accepted, Refused}
 use Rattle.vectors.specs.declared.BookText.{BookText}
 use Rattle.vectors.specs.declared.FoundBook.{FoundBook}
 use Rattle.vectors.specs.declared.FoundBook.the-variants as found
+use Rattle.vectors.specs.declared.BookBytes.{BookBytes}
+use Rattle.vectors.specs.declared.BookBytes.the-variants as put
 use Rattle.vectors.specs.declared.Decimal.{Decimal}
 use Rattle.vectors.specs.declared.Decimal.the-variants as decimals
 
@@ -72,3 +76,15 @@ byteOf text book k =
 unfoldable pub tabulated : ℕ → (ℕ → ℕ) → List ℕ
 tabulated zero f = []
 tabulated (suc n) f = tabulated n f ++ (f n ∷ [])
+
+-- the bytes of a book that was found in a field stand at the start of a buffer, or nothing was put there
+abbrev pub Put : List ℕ → ℕ → ℕ → List ℕ → List ℕ → BookBytes → Type 0
+Put text from to before after put.Unreadable = after ≡ before
+Put text from to before after (put.Length n) =
+    (book : BookText) × Found text from to (found.Book book) × (n ≡ book .length) × (n ≤ length before)
+    × (after ≡ sets before 0 (tabulated n (byteOf text book)))
+
+-- the question that an answer names, 0 for none
+abbrev pub questionOf : Answer → ℕ
+questionOf Accepted = 0
+questionOf (Refused question) = question

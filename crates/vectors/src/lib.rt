@@ -1,21 +1,34 @@
-// The text of test vectors: a book in hexadecimal, a decimal number. No input and no output of its own.
+// The text of test vectors: a book in hexadecimal, a decimal number; and what the programs that run them share. No input
+// and no output of its own.
+use book::Answer;
 use book::Shape;
 ghost use mathlib.Core.Path.{_≡_};
-ghost use Prim.Native.Nat.{_≤_};
-ghost use lib.ListN.{length};
+ghost use Prim.Native.Nat.{_+_, _≤_, min};
+ghost use lib.ListN.{length, replicate};
 ghost use lib.Seq.{sets, slice};
-ghost use Rattle.vectors.specs.Text.{digit, isDigit, allDigits, decimal, byteOf, tabulated, Inside, Covers, Found, IsPart, Tells};
+ghost use Rattle.vectors.specs.Text.{digit, isDigit, allDigits, decimal, byteOf, tabulated, Inside, Covers, Found, Put, IsPart, Tells, questionOf};
+
+// The longest text of vectors, and the longest book of a line: larger than any that is accepted.
+pub const TEXT: usize = 1048576;
+
+pub const BOOK: usize = 262144;
 
 // Where a book stands in a text: its digits spell the first bytes, two to a byte, and zeros follow up to its length.
-pub struct BookText {
-    pub start: usize,
-    pub spelled: usize,
-    pub length: usize,
+struct BookText {
+    start: usize,
+    spelled: usize,
+    length: usize,
 }
 
 // What a field says.
-pub enum FoundBook {
+enum FoundBook {
     Book(BookText),
+    Unreadable,
+}
+
+// How many bytes the book of a field has, which now stand in a buffer.
+pub enum BookBytes {
+    Length(usize),
     Unreadable,
 }
 
@@ -106,6 +119,14 @@ pub fn decimal_in(text: &[u8], from: usize, to: usize) -> Decimal
     Decimal::Number(v)
 }
 
+// Where the field begins behind one that ends at a place, with a space; at the end there is none.
+pub fn next_field(end: usize, to: usize) -> usize
+    requires { ⌜ end ≤ to ⌝ }
+    ensures { λ r. ⌜ (end ≤ r) × (r ≤ to) × (r ≡ min (end + 1) to) ⌝ }
+{
+    if end < to { end + 1 } else { to }
+}
+
 // The length of a book whose digits end at a place: what stands behind the `*` there, or the bytes that are spelled.
 fn length_in(text: &[u8], star: usize, to: usize, spelled: usize) -> Decimal
     requires { ⌜ (star ≤ to) × (to ≤ length (now text)) ⌝ }
@@ -125,7 +146,7 @@ fn length_in(text: &[u8], star: usize, to: usize, spelled: usize) -> Decimal
 
 // The book that a field spells: `-` for the empty one, or two digits a byte, or such digits, `*` and the length in bytes
 // up to which zeros follow.
-pub fn book_in(text: &[u8], from: usize, to: usize) -> FoundBook
+fn book_in(text: &[u8], from: usize, to: usize) -> FoundBook
     requires { ⌜ (from ≤ to) × (to ≤ length (now text)) ⌝ }
     ensures { λ r. ⌜ Found (now (text .entry)) from to r ⌝ }
 {
@@ -175,7 +196,7 @@ fn byte_of(text: &[u8], book: BookText, k: usize) -> u8
 }
 
 // The book's bytes at the start of a buffer.
-pub fn put_book(text: &[u8], book: BookText, out: &mut [u8])
+fn put_book(text: &[u8], book: BookText, out: &mut [u8])
     requires { ⌜ Inside (now text) book × (book .length ≤ length (now out)) ⌝ }
     ensures { λ _. ⌜ now (out .exit) ≡ sets (now (out .entry)) 0 (tabulated (book .length) (byteOf (now (text .entry)) book)) ⌝ }
 {
@@ -187,11 +208,51 @@ pub fn put_book(text: &[u8], book: BookText, out: &mut [u8])
     }
 }
 
+// The book of a field at the start of a buffer. One that is longer than the buffer cannot be read.
+pub fn book_into(text: &[u8], from: usize, to: usize, out: &mut [u8]) -> BookBytes
+    requires { ⌜ (from ≤ to) × (to ≤ length (now text)) ⌝ }
+    ensures { λ r. ⌜ Put (now (text .entry)) from to (now (out .entry)) (now (out .exit)) r ⌝ }
+{
+    let found = book_in(text, from, to);
+    let FoundBook::Book(book) = found else {
+        return BookBytes::Unreadable;
+    };
+    let n = book.length;
+    if out.len() < n {
+        return BookBytes::Unreadable;
+    }
+    put_book(text, book, out);
+    BookBytes::Length(n)
+}
+
+// The large buffers are made by functions of their own, so that no proof meets their many bytes one by one.
+pub fn text_buffer() -> [u8; TEXT]
+    ensures { λ r. ⌜ r ≡ replicate 1048576 0 ⌝ }
+{
+    [0; TEXT]
+}
+
+pub fn book_buffer() -> [u8; BOOK]
+    ensures { λ r. ⌜ r ≡ replicate 262144 0 ⌝ }
+{
+    [0; BOOK]
+}
+
 // How many bytes a part of a buffer has that is to have n: all of the buffer where it is shorter.
 pub fn part_of(n: usize, buffer: &[u8]) -> usize
     ensures { λ r. ⌜ IsPart n r (now (buffer .entry)) ⌝ }
 {
     if n < buffer.len() { n } else { buffer.len() }
+}
+
+// The question that refuses, 0 for none.
+pub fn question_of(answer: Answer) -> u32
+    ensures { λ r. ⌜ r ≡ questionOf answer ⌝ }
+{
+    match answer {
+        Answer::Accepted => 0,
+        Answer::Refused(question) => question,
+    }
 }
 
 // Have two tables the same entries?
