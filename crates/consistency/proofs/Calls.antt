@@ -1,11 +1,10 @@
--- The two calls: from accepted tables to what the functions below them are given, and from what those answer to the
--- definitions.
-use mathlib.Core.Path.{_≡_, sym, ap, subst, _∙_}
+-- From accepted tables to what the functions below a call are given, and from what those answer to the test of a set.
+use mathlib.Core.Path.{_≡_, sym, subst, _∙_}
 use mathlib.Core.Bool.{true, false}
 use mathlib.Core.List.{List}
 use Prim.Native.Nat.{ℕ, _≤_, _<_}
 use native.Mathlib.Omega.{arith}
-use lib.ListN.{length, List·getD-eq-default}
+use lib.ListN.{length}
 use Rattle.book.specs.declared.Shape.{Shape}
 use Rattle.book.specs.declared.Checkpoint.{Checkpoint}
 use Rattle.book.specs.declared.TableRows.{TableRows}
@@ -14,20 +13,16 @@ use Rattle.book.specs.View.{count, firstRows}
 use Rattle.book.specs.InTurn.{ask}
 use Rattle.book.specs.Check.{tablesQuestion}
 use Rattle.book.specs.Fits.{Placed}
-use Rattle.book.proofs.Questions.{then-passed, then-refused, then-both, ask-yes, ask-no, kept-passed, kept-refused}
+use Rattle.book.proofs.Questions.{then-passed, then-refused, then-both, ask-yes, ask-no}
 use Rattle.book.proofs.Starts.{placed-of}
-use Rattle.line_theory.specs.Sets.{View, IsBook, IsSet, passed, cut}
-use Rattle.line_theory.specs.Search.{line}
+use Rattle.line_theory.specs.Sets.{IsBook, IsSet}
 use Rattle.line_theory.specs.OfTables.{viewOf}
-use Rattle.line_theory.proofs.Accepted.{accepted-size, accepted-lengths, accepted-few, accepted-absent, accepted-is-book}
+use Rattle.line_theory.proofs.Accepted.{accepted-size, accepted-lengths, accepted-few, accepted-is-book}
 use Rattle.consistency.specs.declared.SetAnswer.{SetAnswer}
 use Rattle.consistency.specs.declared.SetAnswer.the-variants.{Consistent, AtFault, Refused}
-use Rattle.consistency.specs.declared.Line.{Line}
 use Rattle.consistency.specs.Set.{chosen, allThere, testQuestion, Tested}
-use Rattle.consistency.specs.Line.{checkpoints, noLine, lineFound, passedFound, IsLineOf}
 use Rattle.consistency.specs.Given.{SetGiven, Paired}
 use Rattle.consistency.proofs.There.{there-present}
-use Rattle.consistency.proofs.Sixteen.{chosen-of}
 
 -- the rows that a call finds are those of accepted tables
 module _ (shape : Shape) (sent received : List ℕ) (sixteen : length (shape .counts) ≡ 16) (none : tablesQuestion shape sent received ≡ 0) where
@@ -43,40 +38,7 @@ module _ (shape : Shape) (sent received : List ℕ) (sixteen : length (shape .co
         is-set = subst (λ (t : Shape). IsSet (viewOf t sent received) (chosen s)) (sym e) is-set;
       }
 
-  -- ---- the newest set
-
-  chosen-newest : chosen (checkpoints (count shape)) ≡ count shape
-  chosen-newest = chosen-of (count shape) (λ j k. List·getD-eq-default (shape .counts) 0 {n = j} (omega (arith, sixteen)))
-
-  pub newest-is-set : IsSet (viewOf shape sent received) (chosen (checkpoints (count shape)))
-  newest-is-set =
-      subst (IsSet (viewOf shape sent received)) (sym chosen-newest)
-      (record { some = accepted-is-book shape sent received sixteen none .some; among = λ j k. omega arith })
-
-  pub newest-absent : (j : ℕ) → shape .n ≤ j → chosen (checkpoints (count shape)) j ≡ 0
-  newest-absent j k = ap (λ (c : ℕ → ℕ). c j) chosen-newest ∙ accepted-absent shape sent received sixteen none j k
-
-  -- a book cut to its newest set is the book
-  pub line-found : (found : Line) → IsLineOf (cut (viewOf shape sent received) (chosen (checkpoints (count shape)))) found
-      → (found .set ≡ lineFound shape sent received) × (found .passed ≡ passedFound shape sent received)
-  unfolding lineFound passedFound
-  line-found found h =
-      let v : View = viewOf shape sent received in
-      let whole : IsLineOf v found = subst (λ (c : ℕ → ℕ). IsLineOf (cut v c) found) chosen-newest h in (
-        whole .0 ∙ sym (kept-passed (tablesQuestion shape sent received) noLine (checkpoints (line v)) none),
-        whole .1 ∙ sym (kept-passed (tablesQuestion shape sent received) 0 (passed v (line v)) none),
-      )
-
--- ---- refusals, and the test of a set
-
-pub line-refused : (shape : Shape) (sent received : List ℕ) → (tablesQuestion shape sent received ≡ 0 → ⊥)
-    → (noLine ≡ lineFound shape sent received) × (0 ≡ passedFound shape sent received)
-unfolding lineFound passedFound
-line-refused shape sent received h =
-    let v : View = viewOf shape sent received in (
-      sym (kept-refused (tablesQuestion shape sent received) noLine (checkpoints (line v)) h),
-      sym (kept-refused (tablesQuestion shape sent received) 0 (passed v (line v)) h),
-    )
+-- ---- the test of a set
 
 module _ (shape : Shape) (sent received : List ℕ) (s : List Checkpoint) where
   pub test-refused : (question : ℕ) → question ≡ tablesQuestion shape sent received → (question ≡ 0 → ⊥) → Tested shape sent received s (Refused question)

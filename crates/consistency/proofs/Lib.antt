@@ -1,8 +1,6 @@
 pub mod Fills
 pub mod Permits
 pub mod There
-pub mod Sixteen
-pub mod Flags
-pub mod StepsBack
+pub mod Pairs
 pub mod Calls
 pub mod Theorems

@@ -1,24 +1,22 @@
--- What the functions below the calls are given, and what they promise one another: `test_checkpoint`, `newest_permitted`
--- and `find_from`, for other crates, and the private ones.
+-- What the functions below the calls are given, and what they promise one another: those for other crates
+-- (`test_checkpoint`, `newest_permitted`, `test_in_set`), and the private ones.
 use mathlib.Core.Path.{_≡_}
-use mathlib.Core.Bool.{Bool, true, false, not, _||_}
+use mathlib.Core.Bool.{true}
 use mathlib.Core.List.{List}
-use Prim.Native.Nat.{ℕ, _+_, _-_, _≤_, _<_}
-use lib.ListN.{length, getD}
+use Prim.Native.Nat.{ℕ, _-_, _≤_, _<_}
+use lib.ListN.{length}
 use Rattle.book.specs.declared.TableRows.{TableRows}
 use Rattle.book.specs.declared.Checkpoint.{Checkpoint}
 use Rattle.book.specs.declared.Count.{Count}
 use Rattle.book.specs.Bounds.{mark, mostProcesses, entries}
 use Rattle.book.specs.View.{count, S}
 use Rattle.book.specs.Fits.{Placed}
-use Rattle.line_theory.specs.Sets.{View, IsBook, IsSet, receivedMore, consistent}
-use Rattle.line_theory.specs.Search.{permitted, sentTo}
+use Rattle.line_theory.specs.Sets.{View, IsBook, IsSet, consistent}
+use Rattle.line_theory.specs.Search.{sentTo}
 use Rattle.line_theory.specs.OfTables.{viewOf}
 use Rattle.consistency.specs.declared.SetAnswer.{SetAnswer}
 use Rattle.consistency.specs.declared.SetAnswer.the-variants.{Consistent, AtFault, Refused}
 use Rattle.consistency.specs.declared.Permission.{Permission}
-use Rattle.consistency.specs.declared.Flagged.{Flagged}
-use Rattle.consistency.specs.declared.Flagged.the-variants.{Next, Nobody}
 use Rattle.consistency.specs.Set.{chosen, IsAtFault}
 use Rattle.consistency.specs.Known.{counters, CheckpointTested}
 
@@ -43,10 +41,6 @@ pub record SetGiven (rows : TableRows) (sent received : List ℕ) (set : List Ch
 abbrev pub AllNamed : TableRows → List Checkpoint → Type 0
 AllNamed rows set = (p : ℕ) → p < rows .shape .n → (1 ≤ chosen set p) × (chosen set p ≤ count (rows .shape) p)
 
--- and those of absent processes are zero
-abbrev pub AbsentZero : TableRows → List Checkpoint → Type 0
-AbsentZero rows set = (p : ℕ) → rows .shape .n ≤ p → chosen set p ≡ 0
-
 -- what the checkpoints of a set have sent to process j
 abbrev pub AreSentTo : TableRows → List ℕ → List Checkpoint → ℕ → List Count → Type 0
 AreSentTo rows sent set j known = (p : ℕ) → p < rows .shape .n → counters known p ≡ S (rows .shape) sent p (chosen set p) j
@@ -60,33 +54,3 @@ abbrev pub Paired : View → (ℕ → ℕ) → SetAnswer → Type 0
 Paired v c Consistent = consistent v c ≡ true
 Paired v c (AtFault j p) = IsAtFault v c (j .0) (p .0)
 Paired v c (Refused question) = ⊥
-
--- ---- the finder
-
--- process j's checkpoint is not permitted in a set
-abbrev pub mustStepBack : View → (ℕ → ℕ) → ℕ → Bool
-mustStepBack v c j = not (permitted (v .n) (v .R j (c j)) (sentTo v c j))
-
--- a flag of a process, which counts from 0
-abbrev pub flagged : List Bool → ℕ → Bool
-flagged flags j = getD flags j false
-
--- exactly those processes are flagged that must step back
-abbrev pub AreFlags : View → (ℕ → ℕ) → (ℕ → Bool) → Type 0
-AreFlags v c flags = (j : ℕ) → j < v .n → flags j ≡ mustStepBack v c j
-
--- flagged are, beside those that were, those whose checkpoint received more from process j than j's has sent
-abbrev pub FlaggedBeside : View → (ℕ → ℕ) → ℕ → (ℕ → Bool) → (ℕ → Bool) → Type 0
-FlaggedBeside v c j flags flags′ = (p : ℕ) → p < v .n → flags′ p ≡ (flags p || receivedMore v c p j)
-
--- one step back of process j
-pub record SteppedBack (v : View) (j : ℕ) (c c′ : ℕ → ℕ) (flags flags′ : ℕ → Bool) : Type 0 where
-  pub back : c′ j + 1 ≡ c j
-  pub others : (p : ℕ) → (p ≡ j → ⊥) → c′ p ≡ c p
-  pub own : flags′ j ≡ mustStepBack v c′ j
-  pub beside : (p : ℕ) → p < v .n → (p ≡ j → ⊥) → flags′ p ≡ (flags p || receivedMore v c′ p j)
-
--- a flagged process, or that there is none
-abbrev pub IsFlagged : ℕ → (ℕ → Bool) → Flagged → Type 0
-IsFlagged n flags (Next j) = (1 ≤ j .0) × (j .0 ≤ n) × (flags (j .0 - 1) ≡ true)
-IsFlagged n flags Nobody = (j : ℕ) → j < n → flags j ≡ false

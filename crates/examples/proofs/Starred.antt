@@ -16,7 +16,7 @@ use Rattle.line_theory.specs.Over.{allTo, sumTo, tabFrom, lastTo}
 use Rattle.line_theory.specs.Sets.{consistent, passed}
 use Rattle.line_theory.specs.Search.{permitted, newest, stepped, settled, lineSet}
 use Rattle.consistency.specs.Set.{allThere, testQuestion}
-use Rattle.consistency.specs.Line.{checkpoints, lineFound, passedFound}
+use Rattle.finder.specs.Line.{checkpoints, lineFound, passedFound}
 use Rattle.examples.specs.Starred.{Starred, NotConsistent, holds, _also_, none, lent, setOf, k1}
 use Rattle.examples.proofs.Pairs.{noOther, only-answer}
 

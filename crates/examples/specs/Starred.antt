@@ -19,7 +19,7 @@ use Rattle.book.specs.Read.{noShape, readQuestion, shapeRead, sentRead, receive
 use Rattle.consistency.specs.declared.SetAnswer.{SetAnswer}
 use Rattle.consistency.specs.declared.SetAnswer.the-variants as test
 use Rattle.consistency.specs.Set.{Tested}
-use Rattle.consistency.specs.Line.{checkpoints, lineFound, passedFound}
+use Rattle.finder.specs.Line.{checkpoints, lineFound, passedFound}
 
 -- ---- what can be claimed
 

@@ -203,7 +203,7 @@ fn is_latest(shape: Shape, sent: &[Counter], received: &[Counter], line: [Checkp
 
 // Prints the line of accepted tables, and T.
 fn try_finder(shape: Shape, sent: &[Counter], received: &[Counter]) {
-    let found = consistency::find_line(shape, sent, received);
+    let found = finder::find_line(shape, sent, received);
     let answer = found.answer;
     let line = found.line;
     print_line(shape.n, line, found.passed);
@@ -218,7 +218,7 @@ fn try_finder(shape: Shape, sent: &[Counter], received: &[Counter]) {
 
 // Tables without a process are refused by question 4, and then there is no line.
 fn finds_nothing(shape: Shape, sent: &[Counter], received: &[Counter]) -> bool {
-    let found = consistency::find_line(shape, sent, received);
+    let found = finder::find_line(shape, sent, received);
     let answer = found.answer;
     let line = found.line;
     vectors::question_of(answer) == 4 && none_from(line, 0) && found.passed == 0

@@ -114,7 +114,7 @@ fn is_below_line(
     received: &[Counter],
     set: [Checkpoint; 16],
 ) -> bool {
-    let found = consistency::find_line(shape, sent, received);
+    let found = finder::find_line(shape, sent, received);
     let answer = found.answer;
     let line = found.line;
     vectors::question_of(answer) == 0 && nowhere_later(set, line)

@@ -1,0 +1,5 @@
+pub mod Sixteen
+pub mod Flags
+pub mod StepsBack
+pub mod Calls
+pub mod Theorems
