@@ -1,5 +1,5 @@
 -- The line that is found is the line: steps back from the newest set end, stay above every consistent set, and end on one.
-use mathlib.Core.Path.{_≡_, refl, sym, _∙_}
+use mathlib.Core.Path.{_≡_, sym, _∙_}
 use mathlib.Core.Bool.{true, true≢false}
 use mathlib.Core.List.{List}
 use Prim.Native.Nat.{ℕ, zero, suc, _≤_, _<_}
@@ -22,7 +22,7 @@ use Rattle.line_theory.specs.Statements.{
   RefusedIsAbove,
   ConsistentAboveIsLine,
 }
-use Rattle.line_theory.proofs.Over.{sum-ext, sum-same, sum-at, sum-missing, length-tab, getD-tab, tab-ext}
+use Rattle.line_theory.proofs.Over.{sum-ext, sum-same, sum-at, sum-missing, length-tab, getD-tab}
 use Rattle.line_theory.proofs.Tests.{permits-consistent}
 use Rattle.line_theory.proofs.Steps.{consistent-permitted, newest-above, newest-is-newest}
 
@@ -133,17 +133,6 @@ length-line v = length-settled (sumTo (v .n) (v .count)) v (tab (v .n) (v .count
 -- absent processes have 0
 pub line-absent : (v : View) (j : ℕ) → v .n ≤ j → line v j ≡ 0
 line-absent v j h = List·getD-eq-default (lineSet v) 0 (rw (length-line v) h)
-
--- steps back do not look at the counts
-settled-cut : (k : ℕ) (v : View) (c d : ℕ → ℕ) (set : List ℕ) → settled k (cut v c) set ≡ settled k (cut v d) set
-unfolding settled stepped
-settled-cut zero v c d set = refl
-settled-cut (suc k) v c d set = settled-cut k v c d (stepped (cut v c) set)
-
-pub line-ext : (v : View) (c d : ℕ → ℕ) → ((j : ℕ) → j < v .n → c j ≡ d j) → lineSet (cut v c) ≡ lineSet (cut v d)
-unfolding lineSet
-line-ext v c d h =
-    rw (sum-ext (v .n) c d h, tab-ext (v .n) c d h) (settled-cut (sumTo (v .n) d) v c d (tab (v .n) d))
 
 -- ---- a book that is cut to a set
 

@@ -120,17 +120,6 @@ getD-from i (suc k) f (suc j) d m = let e : i + suc j ≡ suc i + j = omega arit
 pub getD-tab : {A : Type 0} (k : ℕ) (f : ℕ → A) (i : ℕ) (d : A) → i < k → getD (tab k f) i d ≡ f i
 getD-tab k f i d m = let e : 0 + i ≡ i = omega arith in rw e at (getD-from 0 k f i d m)
 
-from-ext : {A : Type 0} (i k : ℕ) (f g : ℕ → A) → ((j : ℕ) → j < k → f (i + j) ≡ g (i + j)) → tabFrom i k f ≡ tabFrom i k g
-unfolding tabFrom
-from-ext i zero f g h = refl
-from-ext i (suc k) f g h =
-    let e : i + 0 ≡ i = omega arith in
-    let first : f i ≡ g i = rw e at (h 0 (omega arith)) in
-    rw (first, from-ext (suc i) k f g (λ j m. let s : i + suc j ≡ suc i + j = omega arith in rw s at (h (suc j) (omega arith))))
-
-pub tab-ext : {A : Type 0} (k : ℕ) (f g : ℕ → A) → ((i : ℕ) → i < k → f i ≡ g i) → tab k f ≡ tab k g
-tab-ext k f g h = from-ext 0 k f g (λ j m. let e : 0 + j ≡ j = omega arith in rw e (h j m))
-
 -- ---- the last at which it is true
 
 pub last-yes : (f : ℕ → Bool) (k : ℕ) → f (suc k) ≡ true → lastTo f (suc k) ≡ suc k
