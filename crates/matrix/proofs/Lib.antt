@@ -1,0 +1,4 @@
+pub mod Rows
+pub mod Before
+pub mod News
+pub mod Theorems

@@ -1,0 +1,81 @@
+-- `none_above` meets its contract. The invariant: no entry so far is above the other's.
+use mathlib.Core.Path.{sym}
+use mathlib.Core.Bool.{Bool}
+use Prim.Native.Nat.{ℕ, _-_}
+use native.Mathlib.Omega.{arith}
+use borrow.Author.Needs.{needs}
+use borrow.Author.Tests.{le-leb, lt-leb}
+use lib.Dec.{leb}
+use Rattle.line_theory.proofs.Over.{all-not}
+use Rattle.consistency.specs.Known.{counters}
+use Rattle.matrix.specs.Entries.{noneAbove}
+use Rattle.matrix.proofs.Before.{Before, before-none, before-more, before-all}
+use Rattle.matrix.proofs.none_above.Statement.{statement}
+use Rattle.matrix.proofs.none_above.Tie as tie
+
+abbrev Inv-loop : tie.InvT-loop
+Inv-loop a b p₀ p = Before (λ k. leb (counters a k) (counters b k)) p
+
+abbrev μ-loop : tie.MeasureT-loop
+μ-loop a b p₀ p = 16 - p
+
+loop-holds : tie.Need-loop-holds Inv-loop μ-loop
+loop-holds c =
+    let a = c .args in
+    let f : ℕ → Bool = λ k. leb (counters (a .t1) k) (counters (a .t2) k) in
+    before-none f
+
+mul-x : tie.Need-mul-x Inv-loop μ-loop
+mul-x c = omega arith
+
+array-copy-out-x : tie.Need-array-copy-out-x Inv-loop μ-loop
+array-copy-out-x c = omega arith
+
+mul-y : tie.Need-mul-y Inv-loop μ-loop
+mul-y c = omega arith
+
+array-copy-out-y : tie.Need-array-copy-out-y Inv-loop μ-loop
+array-copy-out-y c = omega arith
+
+returns : tie.Need-returns Inv-loop μ-loop
+unfolding noneAbove
+returns c =
+    let a = c .before .before .before .before .before .before .before .args in
+    let f : ℕ → Bool = λ k. leb (counters (a .t1) k) (counters (a .t2) k) in
+    sym (all-not 16 f (c .before .before .before .before .before .before .loop .p) (c .before .before .before .before .before .loop-test .taken) (lt-leb (counters (a .t1) (c .before .before .before .before .before .before .loop .p)) (counters (a .t2) (c .before .before .before .before .before .before .loop .p)) (c .if1 .taken)))
+
+add-p : tie.Need-add-p Inv-loop μ-loop
+add-p c = omega arith
+
+loop-less : tie.Need-loop-less Inv-loop μ-loop
+loop-less c = search needs
+
+loop-again : tie.Need-loop-again Inv-loop μ-loop
+loop-again c =
+    let a = c .before .before .before .before .before .before .before .args in
+    let f : ℕ → Bool = λ k. leb (counters (a .t1) k) (counters (a .t2) k) in
+    before-more f (c .before .before .before .before .before .before .loop .p) (c .before .before .before .before .before .before .loop .inv) (c .before .before .before .before .before .loop-test .taken) (le-leb (counters (a .t1) (c .before .before .before .before .before .before .loop .p)) (counters (a .t2) (c .before .before .before .before .before .before .loop .p)) (c .if1 .left))
+
+returns-2 : tie.Need-returns-2 Inv-loop μ-loop
+unfolding noneAbove
+returns-2 c =
+    let a = c .before .before .args in
+    let f : ℕ → Bool = λ k. leb (counters (a .t1) k) (counters (a .t2) k) in
+    sym (before-all f (c .before .loop .p) (c .before .loop .inv) (c .loop-test .left))
+
+pub none-above-spec : {M : Type 1} → statement M
+none-above-spec =
+    tie.close
+    (tie.spec
+    Inv-loop
+    μ-loop
+    loop-holds
+    mul-x
+    array-copy-out-x
+    mul-y
+    array-copy-out-y
+    returns
+    add-p
+    loop-less
+    loop-again
+    returns-2)

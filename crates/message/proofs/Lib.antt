@@ -1,0 +1,4 @@
+pub mod Pairs
+pub mod Heads
+pub mod PairTurns
+pub mod Messages

@@ -1,0 +1,4 @@
+pub mod Layout
+pub mod Formed
+pub mod Read
+pub mod Parts

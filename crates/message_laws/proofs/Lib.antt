@@ -1,0 +1,4 @@
+pub mod Pairs
+pub mod News
+pub mod Whole
+pub mod Theorems
