@@ -1,0 +1,4 @@
+pub mod Own
+pub mod Named
+pub mod Sends
+pub mod Given

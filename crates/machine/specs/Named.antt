@@ -1,0 +1,17 @@
+-- Document 01, questions 10 and 11 of what a machine names, and the counts that question 13 bounds.
+use mathlib.Core.Bool.{Bool, _&&_, not}
+use Prim.Native.Nat.{ℕ}
+use lib.Dec.{ltb, eqb}
+use Rattle.message.specs.Formed.{isNamed}
+
+-- 10: "Is each process named from 1 to n (a participant: other than the initiator)?"
+abbrev pub participantNamed : ℕ → ℕ → ℕ → Bool
+participantNamed n me initiator = isNamed n me && (isNamed n initiator && not (eqb me initiator))
+
+-- a participant: a process that there is, other than the initiator; both count from 0
+abbrev pub isParticipant : ℕ → ℕ → ℕ → Bool
+isParticipant n initiator p = ltb p n && not (eqb p initiator)
+
+-- 13: "Counts of rounds and deliveries are below 4,294,967,295."
+abbrev pub countLimit : ℕ
+countLimit = 4294967295

@@ -1,0 +1,94 @@
+// Document 01, "A search": what the initiator's and the participant's machine share.
+use book::Checkpoint;
+use book::Count;
+use book::Counter;
+use book::Process;
+use book::TableRows;
+use mail::Outgoing;
+use message::Head;
+use message::Message;
+ghost use mathlib.Core.Path.{_≡_};
+ghost use Prim.Native.Nat.{_-_, _≤_, _<_};
+ghost use Rattle.book.specs.View.{count, S};
+ghost use Rattle.matrix.specs.Matrix.{asRow, asMatrix};
+ghost use Rattle.consistency.specs.Known.{counters};
+ghost use Rattle.consistency.specs.Given.{Whole, IsProcess};
+ghost use Rattle.machine.specs.Named.{participantNamed};
+ghost use Rattle.machine.specs.Sends.{nothing, onlyTo, isTermination};
+
+// What counts of rounds and of deliveries stay below.
+pub const COUNT_LIMIT: u32 = 4294967295;
+
+// Are both named, and is the participant another process than the initiator (question 10)?
+pub fn participant_named(n: usize, me: Process, initiator: Process) -> bool
+    ensures { λ r. ⌜ r ≡ participantNamed n (me .0) (initiator .0) ⌝ }
+{
+    if !message::is_named(n, me.0) {
+        return false;
+    }
+    if !message::is_named(n, initiator.0) {
+        return false;
+    }
+    me.0 != initiator.0
+}
+
+// The sent counters of process j's checkpoint r. Inner: asks for the rows of a whole table and a checkpoint that exists.
+pub fn sent_row(rows: TableRows, sent: &[Counter], j: Process, r: Checkpoint) -> [Count; 16]
+    requires { ⌜ Whole rows (now sent) × IsProcess rows (j .0) ⌝ }
+    requires { ⌜ (1 ≤ r .0) × (r .0 ≤ count (rows .shape) (j .0 - 1)) ⌝ }
+    ensures { λ a. ⌜ a ≡ asRow (λ p. S (rows .shape) (now (sent .entry)) (j .0 - 1) (r .0) p) ⌝ }
+{
+    let mut entries = [Count(0); 16];
+    let mut p = 0;
+    while p < book::MOST_PROCESSES {
+        entries[p] = book::counter(rows, sent, j, r, Process(p + 1));
+        p += 1;
+    }
+    entries
+}
+
+// No message.
+pub fn nothing(head: Head) -> Outgoing
+    ensures { λ r. ⌜ r ≡ nothing head ⌝ }
+{
+    let to = [false; 16];
+    let news = [Count(matrix::NOT_KNOWN); 256];
+    Outgoing { head, to, news }
+}
+
+// The same row of news for every receiver.
+fn for_each(news: [Count; 16]) -> [Count; 256]
+    ensures { λ r. ⌜ r ≡ asMatrix (λ p k. counters news k) ⌝ }
+{
+    let mut all = [Count(0); 256];
+    let mut i = 0;
+    while i < matrix::ENTRIES {
+        all[i] = news[i % book::ROW_WIDTH];
+        i += 1;
+    }
+    all
+}
+
+// One message.
+pub fn only_to(head: Head, receiver: Process, news: [Count; 16]) -> Outgoing
+    requires { ⌜ (1 ≤ receiver .0) × (receiver .0 ≤ 16) ⌝ }
+    ensures { λ r. ⌜ r ≡ onlyTo head (receiver .0 - 1) news ⌝ }
+{
+    let mut to = [false; 16];
+    to[receiver.0 - 1] = true;
+    let all = for_each(news);
+    Outgoing {
+        head,
+        to,
+        news: all,
+    }
+}
+
+// Is it a termination, if it comes from the initiator?
+pub fn is_termination(message: Message) -> bool
+    ensures { λ r. ⌜ r ≡ isTermination message ⌝ }
+{
+    let head = message.head;
+    let news = message.news;
+    head.kind == 2 && message::pair_count(news) == 0
+}
