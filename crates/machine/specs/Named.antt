@@ -1,4 +1,4 @@
--- Document 01, questions 10 and 11 of what a machine names, and the counts that question 13 bounds.
+-- Document 01: the names that question 10 asks of a participant, who is one, and the counts that question 13 bounds.
 use mathlib.Core.Bool.{Bool, _&&_, not}
 use Prim.Native.Nat.{ℕ}
 use lib.Dec.{ltb, eqb}

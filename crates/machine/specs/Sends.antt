@@ -1,4 +1,4 @@
--- What the steps of both machines send.
+-- What the steps of both machines send, and how a termination is known.
 use mathlib.Core.Bool.{Bool, false, _&&_}
 use mathlib.Core.List.{List}
 use Prim.Native.Nat.{ℕ}
@@ -34,6 +34,6 @@ unfoldable pub onlyTo : Head → ℕ → List Count → Outgoing
 onlyTo head to news =
     record { head = head; to = tab mostProcesses (λ p. eqb p to); news = asMatrix (λ p k. counters news k) }
 
--- "Kind 2 from the initiator without pairs is the termination."
+-- "Kind 2 from the initiator without pairs is the termination." That it is from the initiator, question 15 has asked.
 abbrev pub isTermination : Message → Bool
 isTermination m = eqb (m .head .kind) 2 && eqb (pairCount (m .news)) 0

@@ -11,12 +11,12 @@ use Rattle.line_theory.proofs.Over.{all-in, all-out}
 use Rattle.consistency.specs.Known.{counters}
 use Rattle.matrix.specs.Matrix.{pick, entry, withRow}
 use Rattle.matrix.specs.Entries.{differing, changed, diff, patch, same, allLower}
-use Rattle.matrix.specs.Statements.{RowOfMatrix, RowWithRow, OtherRows, ColumnWithRow, Fallen, PatchDiff, DiffLower, DiffNone, PatchNotRaised, SameIsSame}
+use Rattle.matrix.specs.Statements.{EntriesOfFunction, RowWithRow, OtherRows, ColumnWithRow, Fallen, PatchDiff, DiffLower, DiffNone, PatchNotRaised, SameIsSame}
 use Rattle.matrix.proofs.Rows.{row-is, row-length, counter-of-row, entry-of-matrix}
 use Rattle.matrix.proofs.News.{lower, differing-same, differing-none, differing-lower, changed-differing, changed-lower}
 
-pub row-of-matrix : RowOfMatrix
-row-of-matrix = (entry-of-matrix, counter-of-row)
+pub entries-of-function : EntriesOfFunction
+entries-of-function = (entry-of-matrix, counter-of-row)
 
 -- ---- another row
 

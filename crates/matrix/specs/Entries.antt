@@ -22,7 +22,7 @@ differing now′ held = pick (eqb now′ held) mark now′
 abbrev pub diff : List Count → List Count → List Count
 diff now′ held = asRow (λ p. differing (counters now′ p) (counters held p))
 
--- "changes every entry for which the message carries a value to the value received" (K 5.2, step 5; 5.3, step 6)
+-- every entry for which the message carries a value changes to the value received (K 5.2, step 5; 5.3, step 6)
 abbrev pub changed : ℕ → ℕ → ℕ
 changed held news = pick (isNews news) news held
 
@@ -41,6 +41,6 @@ restZero n j a = allTo mostProcesses (λ p. isPair n j p || eqb (counters a p) 0
 unfoldable pub noneAbove : List Count → List Count → Bool
 noneAbove a b = allTo mostProcesses (λ p. leb (counters a p) (counters b p))
 
--- every counter of the news is lower than the entry held
+-- question 16: "Is each counter lower than the entry now held ..?" The counters are those that the news names.
 unfoldable pub allLower : List Count → List Count → Bool
 allLower news held = allTo mostProcesses (λ p. not (isNews (counters news p)) || ltb (counters news p) (counters held p))

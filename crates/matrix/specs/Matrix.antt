@@ -32,6 +32,7 @@ row matrix j = asRow (λ p. entry matrix j p)
 abbrev pub column : List Count → ℕ → List Count
 column matrix p = asRow (λ j. entry matrix j p)
 
+-- the matrix with other entries in process j's row
 abbrev pub withRow : List Count → ℕ → List Count → List Count
 withRow matrix j entries = asMatrix (λ i p. pick (eqb i j) (counters entries p) (entry matrix i p))
 
@@ -43,6 +44,7 @@ isPair n j p = ltb j n && (ltb p n && not (eqb j p))
 abbrev pub notKnownAt : ℕ → ℕ → ℕ → ℕ
 notKnownAt n j p = pick (isPair n j p) mark 0
 
+-- of a row of process j; and of a column, since a pair is one either way round
 abbrev pub notKnownRow : ℕ → ℕ → List Count
 notKnownRow n j = asRow (λ p. notKnownAt n j p)
 

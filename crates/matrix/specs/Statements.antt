@@ -1,4 +1,5 @@
--- Facts about rows and the matrix, for every index and entry.
+-- Facts about rows and the matrix, for every index and entry. A row has sixteen entries whatever n is, so each of them holds
+-- for every n.
 use mathlib.Core.Path.{_≡_}
 use mathlib.Core.Bool.{true}
 use mathlib.Core.List.{List}
@@ -12,8 +13,8 @@ use Rattle.matrix.specs.Matrix.{pick, asRow, asMatrix, entry, row, colum
 use Rattle.matrix.specs.Entries.{diff, patch, same, allLower}
 
 -- A matrix made of a function has its values as entries, and so has a row.
-abbrev pub RowOfMatrix : Type 0
-RowOfMatrix =
+abbrev pub EntriesOfFunction : Type 0
+EntriesOfFunction =
     ((f : ℕ → ℕ → ℕ) (j p : ℕ) → j < mostProcesses → p < mostProcesses → entry (asMatrix f) j p ≡ f j p)
     × ((f : ℕ → ℕ) (p : ℕ) → p < mostProcesses → counters (asRow f) p ≡ f p)
 

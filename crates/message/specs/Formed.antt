@@ -11,7 +11,6 @@ use Rattle.book.specs.Bounds.{groups, largest, mark}
 use Rattle.consistency.specs.Known.{counters}
 use Rattle.matrix.specs.Matrix.{pick}
 use Rattle.matrix.specs.Entries.{isNews}
-use Rattle.message.specs.declared.Head.{Head}
 use Rattle.message.specs.declared.Message.{Message}
 use Rattle.message.specs.Layout.{pairCount, noNews}
 
@@ -19,11 +18,11 @@ use Rattle.message.specs.Layout.{pairCount, noNews}
 abbrev pub isKind : ℕ → Bool
 isKind kind = eqb kind 1 || eqb kind 2
 
--- "purposes 1 to 3"
+-- "purposes 1 to 3"; question 11, of what a call or a state names: "Is the purpose 1, 2 or 3?"
 abbrev pub isPurpose : ℕ → Bool
 isPurpose purpose = leb 1 purpose && leb purpose 3
 
--- "processes 1 to n"
+-- "processes 1 to n"; question 10, likewise: "Is each process named from 1 to n ..?"
 abbrev pub isNamed : ℕ → ℕ → Bool
 isNamed n process = leb 1 process && leb process n
 
@@ -33,9 +32,9 @@ headFormed n kind purpose sender =
     isKind kind && (isPurpose purpose && (isNamed n sender && (not (eqb purpose 2) || eqb kind 1)))
 
 -- "No pair names the participant at whose end of the strand the message is read or written": the reader, or where the
--- initiator reads, the sender.
+-- initiator reads, the sender. Where it names itself as the sender there is no participant (0): question 15 refuses that.
 abbrev pub participantEnd : ℕ → ℕ → ℕ → ℕ
-participantEnd me initiator sender = pick (eqb me initiator) sender me
+participantEnd me initiator sender = pick (eqb me initiator) (pick (eqb sender initiator) 0 sender) me
 
 -- one pair: "rising by process" (`last` is the process of the pair before, 0 for none), "processes 1 to n", not that
 -- participant, and the mark is "never a counter in a book or message"
@@ -51,7 +50,7 @@ pairsFormed n end last (suc count) (process ∷ []) = false
 pairsFormed n end last (suc count) (process ∷ counter ∷ numbers) =
     pairFormed n end last process counter && pairsFormed n end process count numbers
 
--- each pair's counter at its process's place
+-- each pair's counter at its process's place, for pairs that are formed
 unfoldable pub newsIn : List Count → List ℕ → List Count
 newsIn news [] = news
 newsIn news (process ∷ []) = news

@@ -1,5 +1,5 @@
 -- Document 01, "Message (own)": "each field a number as above: kind (1 invitation, 2 other), purpose, sender, count of pairs,
--- then pairs (process, counter), rising by process. Nothing follows the pairs."
+-- then pairs (process, counter), rising by process. .. Nothing follows the pairs."
 --
 -- As data a message is its head (kind, purpose, sender) and its news: pairs that rise by process name none twice, and a
 -- counter is never the mark, so they are a row of sixteen entries, with the mark for each process that no pair names.

@@ -41,14 +41,14 @@ pub struct ReadMessage {
     pub message: Message,
 }
 
-// Is it the number of a purpose?
+// Is the purpose 1, 2 or 3 (question 11)?
 pub fn is_purpose(purpose: u64) -> bool
     ensures { λ r. ⌜ r ≡ isPurpose purpose ⌝ }
 {
     1 <= purpose && purpose <= 3
 }
 
-// Is it the number of a process?
+// Is the process from 1 to n (question 10)?
 pub fn is_named(n: usize, process: usize) -> bool
     ensures { λ r. ⌜ r ≡ isNamed n process ⌝ }
 {
@@ -104,11 +104,17 @@ pub fn read_head(s: &[u8], n: usize) -> HeadRead
     )
 }
 
-// The participant at whose end of the strand a message is read.
+// The participant at whose end of the strand a message is read; 0 where the initiator reads one that names itself.
 fn participant_end(me: Process, initiator: Process, sender: Process) -> Process
     ensures { λ r. ⌜ r .0 ≡ participantEnd (me .0) (initiator .0) (sender .0) ⌝ }
 {
-    if me.0 == initiator.0 { sender } else { me }
+    if me.0 != initiator.0 {
+        return me;
+    }
+    if sender.0 == initiator.0 {
+        return Process(0);
+    }
+    sender
 }
 
 // Is a pair formed, after one that names process `last`?

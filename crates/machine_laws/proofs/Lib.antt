@@ -1,0 +1,9 @@
+pub mod Tests
+pub mod Pairs
+pub mod Rows
+pub mod Messages
+pub mod Checkpoints
+pub mod Absent
+pub mod Newest
+pub mod Calls
+pub mod Theorems

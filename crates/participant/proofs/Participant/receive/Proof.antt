@@ -1,0 +1,202 @@
+-- `receive` meets its contract: at each return the tests that led there say which question fails first.
+use mathlib.Core.Path.{_≡_, sym, _∙_}
+use native.Mathlib.Omega.{arith}
+use borrow.Author.Needs.{needs}
+use lib.ListN.{length}
+use Rattle.book.specs.Check.{tablesQuestion}
+use Rattle.line_theory.proofs.Accepted.{accepted-size, accepted-few}
+use Rattle.machine.proofs.Calls.{given-of}
+use Rattle.participant.specs.Calls.{ownOfState, stateQuestion, messageQuestion, stepOn}
+use Rattle.participant.proofs.Calls.{state-named, step-on, message-asked, receive-tables, receive-state, receive-message, receive-full, receive-sent}
+use Rattle.participant.proofs.Participant.receive.Statement.{statement}
+use Rattle.participant.proofs.Participant.receive.Tie as tie
+
+question-requires : tie.Need-question-requires
+question-requires c κs = search needs
+
+refused-requires : tie.Need-refused-requires
+refused-requires c κs = search needs
+
+returns : tie.Need-returns
+returns c =
+    let a = c .before .before .before .before .before .before .before .args in
+    let question = c .before .before .question in
+    receive-tables (a .shape) (a .sent .now) (a .received .now) (a .self) (a .s .now) (a .out .now) (question .result) (c .refused .result)
+    (question .ensures)
+    (c .before .if1 .taken)
+    (c .refused .ensures)
+
+-- ---- the tables have passed
+
+counts-long : (c : tie.Start) → length (c .args .shape .counts) ≡ 16
+counts-long c = search needs
+
+accepted : (c : tie.Else1) → let a = c .before .before .before .before .before .before .args in
+    tablesQuestion (a .shape) (a .sent .now) (a .received .now) ≡ 0
+accepted c = sym (c .before .question .ensures) ∙ c .if1 .left
+
+state-question-requires : tie.Need-state-question-requires
+state-question-requires c κs = search needs
+
+refused-requires-2 : tie.Need-refused-requires-2
+refused-requires-2 c κs = search needs
+
+returns-2 : tie.Need-returns-2
+returns-2 c =
+    let a = c .before .before .before .before .before .before .before .before .before .args in
+    let question = c .before .before .state-question in
+    receive-state (a .shape) (a .sent .now) (a .received .now) (a .self) (a .s .now) (a .out .now) (accepted (c .before .before .before))
+    (question .result)
+    (c .refused2 .result)
+    (question .ensures)
+    (c .before .if2 .taken)
+    (c .refused2 .ensures)
+
+-- ---- the state has passed
+
+state-passes : (c : tie.Else2) → let a = c .before .before .before .before .before .before .before .before .args in
+    stateQuestion (a .shape .n) (ownOfState (a .shape) (a .sent .now) (a .received .now) (a .self)) (a .self) ≡ 0
+state-passes c = sym (c .before .state-question .ensures) ∙ c .if2 .left
+
+read-message-requires : tie.Need-read-message-requires
+read-message-requires c κs =
+    let a = c .before .before .before .before .before .before .before .before .before .before .args in
+    accepted-size (a .shape) (a .sent .now) (a .received .now) (accepted (c .before .before .before .before)) .1
+
+message-question-requires : tie.Need-message-question-requires
+message-question-requires c κs = search needs
+
+message-is : (c : tie.After-message-question) → let a = c .before .before .before .before .before .before .before .before .before .before .before .before .args in
+    c .message-question .result ≡ messageQuestion (a .shape .n) (a .self) (a .s .now)
+message-is c =
+    let a = c .before .before .before .before .before .before .before .before .before .before .before .before .args in
+    let read = c .before .read-message in
+    c .message-question .ensures ∙ message-asked (a .shape .n) (a .self) (a .s .now) (read .result) (read .ensures .0) (read .ensures .1)
+
+refused-requires-3 : tie.Need-refused-requires-3
+refused-requires-3 c κs = search needs
+
+returns-3 : tie.Need-returns-3
+returns-3 c =
+    let a = c .before .before .before .before .before .before .before .before .before .before .before .before .before .before .args in
+    let passed = c .before .before .before .before .before .before in
+    receive-message (a .shape) (a .sent .now) (a .received .now) (a .self) (a .s .now) (a .out .now) (accepted (passed .before .before))
+    (state-passes passed)
+    (c .before .before .message-question .result)
+    (c .refused3 .result)
+    (message-is (c .before .before))
+    (c .before .if3 .taken)
+    (c .refused3 .ensures)
+
+-- ---- the message has passed
+
+message-passes : (c : tie.Else3) → let a = c .before .before .before .before .before .before .before .before .before .before .before .before .before .args in
+    messageQuestion (a .shape .n) (a .self) (a .s .now) ≡ 0
+message-passes c = sym (message-is (c .before)) ∙ c .if3 .left
+
+rows-of-requires : tie.Need-rows-of-requires
+rows-of-requires c κs =
+    let at = c .before .before .before .before .before .before .before .before .before .before .before .before .before in
+    let a = at .args in
+    accepted-few (a .shape) (a .sent .now) (a .received .now) (counts-long at)
+    (accepted (c .before .before .before .before .before .before .before))
+
+step-requires : tie.Need-step-requires
+step-requires c κs =
+    let at = c .before .before .before .before .before .before .before .before .before .before .before .before .before .before .before in
+    let a = at .args in
+    let passed = c .before .before .before .before .before .before .before in
+    let none = accepted (passed .before .before) in
+    let rows = c .before .rows-of in
+    let named = state-named (a .shape .n) (ownOfState (a .shape) (a .sent .now) (a .received .now) (a .self)) (a .self) (state-passes passed) in
+    let size = accepted-size (a .shape) (a .sent .now) (a .received .now) none in (
+      given-of (a .shape) (a .sent .now) (a .received .now) (rows .result) (a .self .me .0) (counts-long at) none (rows .ensures .0) (rows .ensures .1)
+          (named .0),
+      (named .1 .0, omega (arith, named .1, size)),
+    )
+
+step-is : (c : tie.After-step) → let a = c .before .before .before .before .before .before .before .before .before .before .before .before .before .before .before .before .args in
+    c .step .result ≡ stepOn (a .shape) (a .sent .now) (a .received .now) (a .self) (a .s .now)
+step-is c =
+    let a = c .before .before .before .before .before .before .before .before .before .before .before .before .before .before .before .before .args in
+    let rows = c .before .before .rows-of in
+    let read = c .before .before .before .before .before .read-message in
+    step-on (a .shape) (a .sent .now) (a .received .now) (a .self) (a .s .now) (rows .result) (read .result .message) (c .step .result)
+    (rows .ensures .0)
+    (read .ensures .1)
+    (c .step .ensures)
+
+send-requires : tie.Need-send-requires
+send-requires c κs = search needs
+
+refused-requires-4 : tie.Need-refused-requires-4
+refused-requires-4 c κs = search needs
+
+same-length : tie.Need-same-length
+same-length c = search needs
+
+returns-4 : tie.Need-returns-4
+returns-4 c =
+    let sent = c .before .before .before .before .before .send in
+    let stepped = c .before .before .before .before .before .before .before .before in
+    let a = stepped .before .before .before .before .before .before .before .before .before .before .before .before .before .before .before .before .args in
+    let read = stepped .before .before .before in
+    let passed = read .before .before .before .before .before in
+    receive-full (a .shape) (a .sent .now) (a .received .now) (a .self) (a .s .now) (a .out .now) (accepted (passed .before .before))
+    (state-passes passed)
+    (message-passes read)
+    (stepped .step .result)
+    (step-is stepped)
+    (sent .result .question)
+    (sent .last .1 .0)
+    (sent .ensures .0)
+    (sent .ensures .1 .1)
+    (c .refused4 .result)
+    (c .before .if4 .taken)
+    (c .refused4 .ensures)
+
+same-length-2 : tie.Need-same-length-2
+same-length-2 c = search needs
+
+returns-5 : tie.Need-returns-5
+returns-5 c =
+    let sent = c .before .before .before .before .before .before .send in
+    let stepped = c .before .before .before .before .before .before .before .before .before in
+    let a = stepped .before .before .before .before .before .before .before .before .before .before .before .before .before .before .before .before .args in
+    let read = stepped .before .before .before in
+    let passed = read .before .before .before .before .before in
+    receive-sent (a .shape) (a .sent .now) (a .received .now) (a .self) (a .s .now) (a .out .now) (accepted (passed .before .before))
+    (state-passes passed)
+    (message-passes read)
+    (stepped .step .result)
+    (step-is stepped)
+    (sent .result .question)
+    (sent .last .1 .0)
+    (sent .ensures .0)
+    (sent .ensures .1 .1)
+    (sent .result .lengths)
+    (c .before .before .if4 .left)
+    (sent .ensures .1 .0)
+
+pub receive-spec : {M : Type 1} → statement M
+receive-spec =
+    tie.close
+    (tie.spec
+    question-requires
+    refused-requires
+    returns
+    state-question-requires
+    refused-requires-2
+    returns-2
+    read-message-requires
+    message-question-requires
+    refused-requires-3
+    returns-3
+    rows-of-requires
+    step-requires
+    send-requires
+    refused-requires-4
+    same-length
+    returns-4
+    same-length-2
+    returns-5)
