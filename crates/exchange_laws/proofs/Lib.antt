@@ -1,0 +1,9 @@
+pub mod Counts
+pub mod Differences
+pub mod Heads
+pub mod Passing
+pub mod Receivers
+pub mod Invitations
+pub mod Polls
+pub mod Reports
+pub mod Theorems

@@ -1,0 +1,1 @@
+// The laws of what the machines send one another: no code. The statements are in specs/, their proofs in proofs/.

@@ -1,0 +1,105 @@
+-- `state_question` meets its contract.
+use mathlib.Core.Path.{_≡_, sym, subst, _∙_}
+use mathlib.Core.Bool.{Bool, true}
+use Prim.Native.Nat.{_-_}
+use native.Mathlib.Omega.{arith}
+use borrow.Author.Needs.{needs}
+use borrow.Author.Tests.{not-true, not-false}
+use lib.ListN.{length}
+use Rattle.book.specs.declared.Shape.{Shape}
+use Rattle.line_theory.proofs.Accepted.{accepted-few}
+use Rattle.message.specs.Formed.{isNamed, isPurpose}
+use Rattle.machine.specs.Own.{ownOf}
+use Rattle.machine.proofs.Answers.{first-no, second-no, third-no, all-yes}
+use Rattle.machine.proofs.Calls.{given-of}
+use Rattle.initiator.specs.Fits.{fits}
+use Rattle.initiator.proofs.Calls.{named-there}
+use Rattle.initiator.proofs.Initiator.state_question.Statement.{statement}
+use Rattle.initiator.proofs.Initiator.state_question.Tie as tie
+
+counts-long : (c : tie.Start) → length (c .args .shape .counts) ≡ 16
+counts-long c = search needs
+
+-- the three answers
+abbrev named : tie.Start → Bool
+named c = let a = c .args in isNamed (a .shape .n) (a .self .me .0)
+
+abbrev purposed : tie.Start → Bool
+purposed c = isPurpose (c .args .self .purpose)
+
+abbrev fitting : tie.Start → Bool
+fitting c = let a = c .args in fits (ownOf (a .shape) (a .sent .now) (a .received .now) (a .self .me .0 - 1)) (a .self)
+
+is-named-requires : tie.Need-is-named-requires
+is-named-requires c κs = search needs
+
+returns : tie.Need-returns
+returns c =
+    let at = c .before .before .before .before .before in
+    let told = c .before .is-named in
+    first-no 10 11 13 (named at) (purposed at) (fitting at) (omega arith) (sym (told .ensures) ∙ not-true (told .result) (c .if1 .taken))
+
+is-purpose-requires : tie.Need-is-purpose-requires
+is-purpose-requires c κs = search needs
+
+is-named : (c : tie.Else1) → named (c .before .before .before .before .before) ≡ true
+is-named c = let told = c .before .is-named in sym (told .ensures) ∙ not-false (told .result) (c .if1 .left)
+
+returns-2 : tie.Need-returns-2
+returns-2 c =
+    let at = c .before .before .before .before .before .before .before in
+    let told = c .before .is-purpose in
+    second-no 10 11 13 (named at) (purposed at) (fitting at) (is-named (c .before .before)) (omega arith)
+    (sym (told .ensures) ∙ not-true (told .result) (c .if2 .taken))
+
+is-purposed : (c : tie.Else2) → purposed (c .before .before .before .before .before .before .before) ≡ true
+is-purposed c = let told = c .before .is-purpose in sym (told .ensures) ∙ not-false (told .result) (c .if2 .left)
+
+rows-of-requires : tie.Need-rows-of-requires
+rows-of-requires c κs =
+    let at = c .before .before .before .before .before .before .before in
+    let a = at .args in
+    accepted-few (a .shape) (a .sent .now) (a .received .now) (counts-long at) (at .pre)
+
+fits-requires : tie.Need-fits-requires
+fits-requires c κs =
+    let at = c .before .before .before .before .before .before .before .before in
+    let a = at .args in
+    let rows = c .rows-of in
+    given-of (a .shape) (a .sent .now) (a .received .now) (rows .result) (a .self .me .0) (counts-long at) (at .pre) (rows .ensures .0)
+    (rows .ensures .1)
+    (named-there (a .shape .n) (a .self .me .0) (is-named (c .before .before .before)))
+
+-- the rows are the shape's
+is-fitting : (c : tie.After-fits2) → c .fits2 .result ≡ fitting (c .before .before .before .before .before .before .before .before .before)
+is-fitting c =
+    let a = c .before .before .before .before .before .before .before .before .before .args in
+    subst (λ (t : Shape). c .fits2 .result ≡ fits (ownOf t (a .sent .now) (a .received .now) (a .self .me .0 - 1)) (a .self))
+    (c .before .rows-of .ensures .0) (c .fits2 .ensures)
+
+returns-3 : tie.Need-returns-3
+returns-3 c =
+    let asked = c .before .before .before in
+    let at = asked .before .before .before .before .before .before .before in
+    third-no 10 11 13 (named at) (purposed at) (fitting at) (is-named (asked .before .before)) (is-purposed asked)
+    (sym (is-fitting (c .before)) ∙ not-true (c .before .fits2 .result) (c .if3 .taken))
+
+returns-4 : tie.Need-returns-4
+returns-4 c =
+    let asked = c .before .before .before in
+    let at = asked .before .before .before .before .before .before .before in
+    all-yes 10 11 13 (named at) (purposed at) (fitting at) (is-named (asked .before .before)) (is-purposed asked)
+    (sym (is-fitting (c .before)) ∙ not-false (c .before .fits2 .result) (c .if3 .left))
+
+pub state-question-spec : {M : Type 1} → statement M
+state-question-spec =
+    tie.close
+    (tie.spec
+    is-named-requires
+    returns
+    is-purpose-requires
+    returns-2
+    rows-of-requires
+    fits-requires
+    returns-3
+    returns-4)

@@ -1,0 +1,62 @@
+-- `step_back` meets its contract.
+use Prim.Native.Nat.{_-_}
+use borrow.Author.Needs.{needs}
+use Rattle.machine.specs.Own.{ownOf}
+use Rattle.machine.proofs.Calls.{newest-there}
+use Rattle.initiator.proofs.Steps.{back-is}
+use Rattle.initiator.proofs.Initiator.step_back.Statement.{statement}
+use Rattle.initiator.proofs.Initiator.step_back.Tie as tie
+
+sub-place : tie.Need-sub-place
+sub-place c = search needs
+
+column-requires : tie.Need-column-requires
+column-requires c κs = search needs
+
+mul-t16 : tie.Need-mul-t16
+mul-t16 c = search needs
+
+array-read-t19 : tie.Need-array-read-t19
+array-read-t19 c = search needs
+
+newest-permitted-requires : tie.Need-newest-permitted-requires
+newest-permitted-requires c κs = search needs
+
+sent-row-requires : tie.Need-sent-row-requires
+sent-row-requires c κs =
+    let at = c .before .before .before .before .before .before .before .before .before .before .before in
+    let a = at .args in
+    let given = at .pre in
+    let newest = c .newest-permitted in (
+      (given .in-sent, given .present),
+      newest-there (a .rows) (a .sent .now) (a .received .now) (a .self .me .0) (c .before .column .result) (newest .result .0) given (newest .ensures),
+    )
+
+with-row-requires : tie.Need-with-row-requires
+with-row-requires c κs = search needs
+
+returns : tie.Need-returns
+returns c =
+    let a = c .before .before .before .before .before .before .before .before .before .before .before .before .before .args in
+    let known = c .before .before .before .column in
+    let newest = c .before .before .newest-permitted in
+    let row = c .before .sent-row in
+    back-is (ownOf (a .rows .shape) (a .sent .now) (a .received .now) (a .self .me .0 - 1)) (a .self) (known .result) (newest .result) (row .result)
+    (c .with-row .result)
+    (known .ensures)
+    (newest .ensures)
+    (row .ensures)
+    (c .with-row .ensures)
+
+pub step-back-spec : {M : Type 1} → statement M
+step-back-spec =
+    tie.close
+    (tie.spec
+    sub-place
+    column-requires
+    mul-t16
+    array-read-t19
+    newest-permitted-requires
+    sent-row-requires
+    with-row-requires
+    returns)

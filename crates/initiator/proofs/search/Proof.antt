@@ -1,0 +1,85 @@
+-- `search` meets its contract.
+use mathlib.Core.Path.{sym, subst}
+use Prim.Native.Nat.{_-_, _<_}
+use native.Mathlib.Omega.{arith}
+use borrow.Author.Needs.{needs}
+use Rattle.machine.specs.Own.{ownOf}
+use Rattle.machine.specs.Named.{countLimit}
+use Rattle.initiator.specs.declared.Initiator.{Initiator}
+use Rattle.initiator.specs.Begin.{idle}
+use Rattle.initiator.proofs.Steps.{search-is}
+use Rattle.initiator.proofs.search.Statement.{statement}
+use Rattle.initiator.proofs.search.Tie as tie
+
+sub-place : tie.Need-sub-place
+sub-place c = search needs
+
+mul-t20 : tie.Need-mul-t20
+mul-t20 c = search needs
+
+array-read-t23 : tie.Need-array-read-t23
+array-read-t23 c = search needs
+
+sent-row-requires : tie.Need-sent-row-requires
+sent-row-requires c κs =
+    let at = c .before .before .before .before .before in
+    let given = at .pre in
+    ((given .in-sent, given .present), (given .book .some (at .args .me .0 - 1) (omega (arith, given .present)), omega arith))
+
+not-known-matrix-requires : tie.Need-not-known-matrix-requires
+not-known-matrix-requires c κs = search needs
+
+with-row-requires : tie.Need-with-row-requires
+with-row-requires c κs = search needs
+
+participants-requires : tie.Need-participants-requires
+participants-requires c κs = search needs
+
+invitations-requires : tie.Need-invitations-requires
+invitations-requires c κs = search needs
+
+idle-requires : tie.Need-idle-requires
+idle-requires c κs = search needs
+
+wait-if-requires : tie.Need-wait-if-requires
+unfolding idle
+wait-if-requires c κs = subst (λ (t : Initiator). t .rounds < countLimit) (sym (c .idle .ensures)) (omega arith)
+
+returns : tie.Need-returns
+returns c =
+    let a = c .before .before .before .before .before .before .before .before .before .before .before .before .args in
+    let row = c .before .before .before .before .before .before .sent-row in
+    let unknown = c .before .before .before .before .before .not-known-matrix in
+    let first = c .before .before .before .before .with-row in
+    let to = c .before .before .before .participants in
+    let news = c .before .before .invitations in
+    let start = c .before .idle in
+    search-is (ownOf (a .rows .shape) (a .sent .now) (a .received .now) (a .me .0 - 1)) (a .me) (a .purpose) (row .result) (unknown .result)
+    (first .result)
+    (to .result)
+    (news .result)
+    (start .result)
+    (c .wait-if .result)
+    (row .ensures)
+    (unknown .ensures)
+    (first .ensures)
+    (to .ensures)
+    (news .ensures)
+    (start .ensures)
+    (c .wait-if .ensures)
+
+pub search-spec : {M : Type 1} → statement M
+search-spec =
+    tie.close
+    (tie.spec
+    sub-place
+    mul-t20
+    array-read-t23
+    sent-row-requires
+    not-known-matrix-requires
+    with-row-requires
+    participants-requires
+    invitations-requires
+    idle-requires
+    wait-if-requires
+    returns)

@@ -1,0 +1,77 @@
+-- Document 01, "A search", and K 5.2, steps 1 to 4: the initiator begins.
+use mathlib.Core.Bool.{Bool, true, false}
+use mathlib.Core.List.{List}
+use Prim.Native.Nat.{ℕ, _+_, _-_}
+use lib.Dec.{eqb}
+use Rattle.book.specs.declared.Count.{Count}
+use Rattle.book.specs.declared.Process.{Process}
+use Rattle.book.specs.Bounds.{mark}
+use Rattle.consistency.specs.Known.{counters}
+use Rattle.matrix.specs.Matrix.{pick, asMatrix, withRow, notKnownMatrix}
+use Rattle.machine.specs.Own.{Own, sentRow}
+use Rattle.machine.specs.Sends.{invitationHead, noPairs}
+use Rattle.initiator.specs.declared.Initiator.{Initiator}
+use Rattle.initiator.specs.declared.InitiatorStep.{InitiatorStep}
+use Rattle.initiator.specs.Matrices.{someone, participants, nobody}
+
+-- "The initiator copies its matrix before each wait." "A round is one wait of at least one report, counted as the wait
+-- begins." The processes whose reports are awaited are those that get a message (K's Q: 5.2, steps 3, 4 and 8).
+unfoldable pub wait : Initiator → List Bool → Initiator
+wait state awaited =
+    record {
+      n = state .n;
+      me = state .me;
+      purpose = state .purpose;
+      ended = false;
+      candidate = state .candidate;
+      rounds = state .rounds + 1;
+      awaited = awaited;
+      matrix = state .matrix;
+      copy = state .matrix;
+    }
+
+-- Before any wait: nobody is awaited, no round is counted, and the copy is the matrix. Where no wait begins, it has ended:
+-- "the initiator with the call that sends the terminations (with n = 1, the start)"; with purpose 2, the start too.
+unfoldable pub idle : ℕ → Process → ℕ → ℕ → List Count → Initiator
+idle n me purpose candidate matrix =
+    record {
+      n = n;
+      me = me;
+      purpose = purpose;
+      ended = true;
+      candidate = record { 0 = candidate };
+      rounds = 0;
+      awaited = nobody;
+      matrix = matrix;
+      copy = matrix;
+    }
+
+-- one pair, naming the sender: `me` has sent p so many
+abbrev pub invitations : ℕ → List Count → List Count
+invitations me sent = asMatrix (λ p k. pick (eqb k me) (counters sent p) mark)
+
+-- "Each process begins at its newest checkpoint. The initiator keeps, for every ordered pair, the sender's candidate's sent
+-- counter or 'not known', and invites every other process with its own sent counter for it." With n = 1 there is nobody to
+-- wait for.
+unfoldable pub search : Own → Process → ℕ → InitiatorStep
+search own me purpose =
+    let sent = sentRow own (own .count) in
+    let others = participants (own .n) (me .0 - 1) in
+    let start = idle (own .n) me purpose (own .count) (withRow (notKnownMatrix (own .n)) (me .0 - 1) sent) in
+    record {
+      state = pick (someone others) (wait start others) start;
+      outgoing =
+          record { head = invitationHead purpose me; to = others; news = invitations (me .0 - 1) sent };
+    }
+
+-- "with 2 the invitation itself ends each participant on checkpoint 1, and its sending the initiator"
+unfoldable pub restart : ℕ → Process → ℕ → InitiatorStep
+restart n me purpose =
+    record {
+      state = idle n me purpose 1 (notKnownMatrix n);
+      outgoing = record { head = invitationHead purpose me; to = participants n (me .0 - 1); news = noPairs };
+    }
+
+-- "Purposes 1 and 3 search."
+unfoldable pub begin : Own → Process → ℕ → InitiatorStep
+begin own me purpose = pick (eqb purpose 2) (restart (own .n) me purpose) (search own me purpose)

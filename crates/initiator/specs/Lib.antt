@@ -1,0 +1,5 @@
+pub mod Matrices
+pub mod Fits
+pub mod Begin
+pub mod Step
+pub mod Calls

@@ -1,0 +1,9 @@
+pub mod Entries
+pub mod Fit
+pub mod Begun
+pub mod Sends
+pub mod Reported
+pub mod Stepped
+pub mod Calls
+pub mod Local
+pub mod Theorems
