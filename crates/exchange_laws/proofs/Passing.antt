@@ -14,15 +14,15 @@ use Rattle.message_laws.proofs.Theorems.{written-is-read}
 use Rattle.mail.specs.declared.Outgoing.{Outgoing}
 use Rattle.mail.specs.Outgoing.{goesTo}
 use Rattle.machine.specs.Named.{participantNamed}
-use Rattle.machine_laws.proofs.Tests.{or-out}
+use Rattle.machine.specs.Flags.{flag}
 use Rattle.machine_laws.proofs.Messages.{end-of-reader, end-of-sender}
 use Rattle.machine_laws.proofs.Calls.{yes-three}
+use Rattle.machine_laws.proofs.Tests.{or-out}
 use Rattle.participant.specs.declared.Participant.{Participant}
 use Rattle.participant.specs.Step as participant
 use Rattle.participant.specs.Calls as participant-calls
 use Rattle.participant_laws.proofs.Accepted.{both-named}
 use Rattle.initiator.specs.declared.Initiator.{Initiator}
-use Rattle.initiator.specs.Matrices.{flag}
 use Rattle.initiator.specs.Step as initiator
 use Rattle.initiator.specs.Calls as initiator-calls
 use Rattle.exchange_laws.specs.Ends.{messageDown, PassesDown, messageUp, PassesUp}

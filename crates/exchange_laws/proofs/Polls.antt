@@ -19,13 +19,13 @@ use Rattle.message.specs.Formed.{headFormed, invitationFormed}
 use Rattle.machine.specs.Own.{Own}
 use Rattle.machine.specs.Named.{isParticipant}
 use Rattle.machine.specs.Sends.{otherHead, noPairs, isTermination}
+use Rattle.machine.specs.Flags.{flag}
 use Rattle.machine_laws.proofs.Rows.{column-at, rest-in}
 use Rattle.participant.specs.declared.Participant.{Participant}
 use Rattle.participant.specs.declared.Stage.the-variants.{Searching}
 use Rattle.participant.specs.Step.{step}
 use Rattle.participant_laws.specs.Accepts.{endsIt}
 use Rattle.initiator.specs.declared.Initiator.{Initiator}
-use Rattle.initiator.specs.Matrices.{flag}
 use Rattle.initiator.specs.Step.{polled, poll, terminate}
 use Rattle.initiator_laws.proofs.Sends.{no-pairs}
 use Rattle.initiator_laws.proofs.Theorems.{poll-is-diff}

@@ -20,6 +20,7 @@ use Rattle.mail.specs.declared.Outgoing.{Outgoing}
 use Rattle.machine.specs.Own.{Own}
 use Rattle.machine.specs.Named.{isParticipant}
 use Rattle.machine.specs.Sends.{noPairs}
+use Rattle.machine.specs.Flags.{flag, participants}
 use Rattle.machine_laws.proofs.Rows.{row-at}
 use Rattle.participant.specs.declared.Participant.{Participant}
 use Rattle.participant.specs.declared.Stage.{Stage}
@@ -28,7 +29,6 @@ use Rattle.participant.specs.Step.{kindAwaited, awaits, stepBack, reportOf, ste
 use Rattle.participant_laws.specs.Accepts.{endsIt}
 use Rattle.participant_laws.proofs.Accepted.{Named, both-named}
 use Rattle.participant_laws.proofs.Report.{step-going}
-use Rattle.initiator.specs.Matrices.{flag, participants}
 use Rattle.exchange_laws.specs.Ends.{messageDown, PassesDown, TakesPart}
 use Rattle.exchange_laws.proofs.Differences.{none-lower, none-formed}
 use Rattle.exchange_laws.proofs.Passing.{awaited-down, passes-down}

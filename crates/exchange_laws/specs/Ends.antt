@@ -17,13 +17,13 @@ use Rattle.mail.specs.declared.Outgoing.{Outgoing}
 use Rattle.mail.specs.Outgoing.{goesTo, messageTo}
 use Rattle.machine.specs.Own.{Own}
 use Rattle.machine.specs.Named.{participantNamed}
+use Rattle.machine.specs.Flags.{flag}
 use Rattle.machine_laws.specs.Own.{IsOwn}
 use Rattle.participant.specs.declared.Participant.{Participant}
 use Rattle.participant.specs.declared.Stage.{Stage}
 use Rattle.participant.specs.declared.Stage.the-variants.{Before, Searching}
 use Rattle.participant.specs.Calls as participant
 use Rattle.initiator.specs.declared.Initiator.{Initiator}
-use Rattle.initiator.specs.Matrices.{flag}
 use Rattle.initiator.specs.Calls as initiator
 use Rattle.initiator_laws.specs.Accepts.{ColumnFell}
 

@@ -11,12 +11,12 @@ use Rattle.matrix.specs.Matrix.{row, column}
 use Rattle.message.specs.declared.Message.{Message}
 use Rattle.machine.specs.Own.{Own}
 use Rattle.machine.specs.Sends.{isTermination}
+use Rattle.machine.specs.Flags.{flag}
 use Rattle.participant.specs.declared.Participant.{Participant}
 use Rattle.participant.specs.declared.Stage.the-variants.{Before}
 use Rattle.participant.specs.Step as participant
 use Rattle.participant_laws.specs.Accepts.{Accepts, endsIt}
 use Rattle.initiator.specs.declared.Initiator.{Initiator}
-use Rattle.initiator.specs.Matrices.{flag}
 use Rattle.initiator.specs.Begin.{search, restart}
 use Rattle.initiator.specs.Step as initiator
 use Rattle.initiator.specs.Step.{takeReport, polled, poll, terminate}

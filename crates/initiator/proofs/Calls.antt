@@ -4,9 +4,8 @@ use mathlib.Core.Bool.{Bool, true, false}
 use mathlib.Core.List.{List}
 use Prim.Native.Nat.{ℕ, zero, suc, _-_, _≤_}
 use native.Mathlib.Omega.{arith}
-use borrow.Author.Tests.{leb-true}
 use lib.ListN.{length, getD}
-use lib.Dec.{eqb, leb}
+use lib.Dec.{eqb}
 use Rattle.book.specs.declared.Process.{Process}
 use Rattle.book.specs.declared.Shape.{Shape}
 use Rattle.book.specs.declared.TableRows.{TableRows}
@@ -20,8 +19,9 @@ use Rattle.message.specs.declared.Message.{Message}
 use Rattle.message.specs.Formed.{isNamed, isPurpose, beginFormed, numbersFormed, numbersOf, messageOf, messageFormed}
 use Rattle.message.specs.Read.{noMessage, messageRead}
 use Rattle.message.proofs.Messages.{head-sender}
+use Rattle.message.proofs.Heads.{named-in}
 use Rattle.machine.specs.Own.{Own, ownOf}
-use Rattle.machine.proofs.Answers.{Returned}
+use Rattle.machine.proofs.Answers.{Returned, Told, Answered}
 use Rattle.initiator.specs.declared.Initiator.{Initiator}
 use Rattle.initiator.specs.declared.InitiatorAnswer.{InitiatorAnswer}
 use Rattle.initiator.specs.declared.InitiatorStep.{InitiatorStep}
@@ -29,7 +29,6 @@ use Rattle.initiator.specs.Begin.{begin}
 use Rattle.initiator.specs.Fits.{fits}
 use Rattle.initiator.specs.Step.{senderOf, awaits, step}
 use Rattle.initiator.specs.Calls.{beginOn, beginQuestion, noInitiator, stateBegun, lengthsBegun, bytesBegun, ownOfState, readBy, stateQuestion, messageQuestion, stepOn, receiveQuestion, stateAfter, lengthsAfter, bytesAfter}
-use Rattle.initiator.proofs.Answers.{Answered}
 
 -- ---- two tests
 
@@ -43,13 +42,8 @@ second-fails i j a b h k = rw (h, k)
 pub none-fails : (i j : ℕ) (a b : Bool) → a ≡ true → b ≡ true → 0 ≡ (ask i a then λ _. ask j b)
 none-fails i j a b h k = rw (h, k)
 
--- ---- names
+-- ---- the sender of a formed message
 
-pub named-there : (n process : ℕ) → isNamed n process ≡ true → (1 ≤ process) × (process ≤ n)
-named-there n process h =
-    let both = and-both (leb 1 process) (leb process n) h in (leb-true 1 process (both .0), leb-true process n (both .1))
-
--- the sender of a formed message
 pub sender-there : (n me initiator : ℕ) (s : List ℕ) (m : Message) → messageFormed n me initiator s ≡ true → m ≡ messageRead n me initiator s
     → (1 ≤ m .head .sender .0) × (m .head .sender .0 ≤ n)
 unfolding messageFormed numbersFormed messageRead
@@ -74,12 +68,20 @@ namesQuestion n me purpose = ask 10 (isNamed n (me .0)) then λ _. ask 11 (isPur
 
 pub names-there : (n : ℕ) (me : Process) (purpose : ℕ) → namesQuestion n me purpose ≡ 0 → (1 ≤ me .0) × (me .0 ≤ n)
 names-there n me purpose h =
-    named-there n (me .0) (asked-yes 9 (isNamed n (me .0)) (then-none (ask 10 (isNamed n (me .0))) (λ _. ask 11 (isPurpose purpose)) h .0))
+    named-in n (me .0) (asked-yes 9 (isNamed n (me .0)) (then-none (ask 10 (isNamed n (me .0))) (λ _. ask 11 (isPurpose purpose)) h .0))
+
+-- what `refused` hands back beside no state
+pub told-none : (none : Initiator) (found : ℕ) (a : InitiatorAnswer) → none ≡ noInitiator → Told none found (a .answer) (a .state) (a .lengths)
+    → Told noInitiator found (a .answer) (a .state) (a .lengths)
+told-none none found a e told = (told .0, (told .1 .0 ∙ e, told .1 .1))
 
 -- the two are one question of the call
 pub answer-begun : (shape : Shape) (sent received : List ℕ) (me : Process) (purpose : ℕ) (out : List ℕ) (next : InitiatorStep) (a : InitiatorAnswer)
     (bytes : List ℕ) → next ≡ beginOn shape sent received me purpose
-    → Answered (tablesQuestion shape sent received) (namesQuestion (shape .n) me purpose) 0 noInitiator next out a bytes
+    → Answered (tablesQuestion shape sent received) (namesQuestion (shape .n) me purpose) 0 noInitiator (next .state) (next .outgoing) out (a .answer)
+    (a .state)
+    (a .lengths)
+    bytes
     → (a .answer ≡ answerTo (beginQuestion shape sent received me purpose out))
     × ((a .state ≡ stateBegun shape sent received me purpose out)
     × ((a .lengths ≡ lengthsBegun shape sent received me purpose out) × (bytes ≡ bytesBegun shape sent received me purpose out)))
@@ -88,8 +90,8 @@ answer-begun shape sent received me purpose out next a bytes e answered =
     let first = beginOn shape sent received me purpose in
     let tables : ℕ = tablesQuestion shape sent received in
     let names : ℕ = namesQuestion (shape .n) me purpose in
-    let with-first : Answered tables names 0 noInitiator first out a bytes
-    = subst (λ (t : InitiatorStep). Answered tables names 0 noInitiator t out a bytes) e answered in
+    let Begun : InitiatorStep → Type 0 = λ t. Answered tables names 0 noInitiator (t .state) (t .outgoing) out (a .answer) (a .state) (a .lengths) bytes in
+    let with-first : Begun first = subst Begun e answered in
     subst (λ (k : ℕ). Returned k noInitiator (first .state) (first .outgoing) out (a .answer) (a .state) (a .lengths) bytes)
     (ap (λ (k : ℕ). tables then λ _. k) (then-assoc (ask 10 (isNamed (shape .n) (me .0))) (λ _. ask 11 (isPurpose purpose)) _))
     with-first
@@ -105,7 +107,7 @@ module _ (n : ℕ) (own : Own) (state : Initiator) (passes : stateQuestion n own
   after-name = then-none (ask 10 named) (λ _. ask 11 (isPurpose (state .purpose)) then λ _. ask 13 (fits own state)) passes
 
   pub state-named : (1 ≤ state .me .0) × (state .me .0 ≤ n)
-  state-named = named-there n (state .me .0) (asked-yes 9 named (after-name .0))
+  state-named = named-in n (state .me .0) (asked-yes 9 named (after-name .0))
 
   pub state-fits : fits own state ≡ true
   state-fits = asked-yes 12 (fits own state) (then-none (ask 11 (isPurpose (state .purpose))) (λ _. ask 13 (fits own state)) (after-name .1) .1)
@@ -141,9 +143,12 @@ pub answer-received : (shape : Shape) (sent received : List ℕ) (state : Initia
     → Answered (tablesQuestion shape sent received) (stateQuestion (shape .n) (ownOfState shape sent received state) state)
     (messageQuestion (shape .n) state s)
     state
-    next
+    (next .state)
+    (next .outgoing)
     out
-    a
+    (a .answer)
+    (a .state)
+    (a .lengths)
     bytes
     → (a .answer ≡ answerTo (receiveQuestion shape sent received state s out))
     × ((a .state ≡ stateAfter shape sent received state s out)
@@ -155,8 +160,11 @@ answer-received shape sent received state s out next a bytes e answered =
     Answered (tablesQuestion shape sent received) (stateQuestion (shape .n) (ownOfState shape sent received state) state)
     (messageQuestion (shape .n) state s)
     state
-    t
+    (t .state)
+    (t .outgoing)
     out
-    a
+    (a .answer)
+    (a .state)
+    (a .lengths)
     bytes)
     e answered

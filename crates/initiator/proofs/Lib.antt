@@ -1,7 +1,3 @@
-pub mod Tests
-pub mod Flags
-pub mod Entries
-pub mod Fits
+pub mod Fitting
 pub mod Steps
-pub mod Answers
 pub mod Calls

@@ -7,14 +7,15 @@ use Rattle.book.specs.declared.Checkpoint.{Checkpoint}
 use Rattle.book.specs.declared.Count.{Count}
 use Rattle.book.specs.declared.Process.{Process}
 use Rattle.matrix.specs.Matrix.{pick, column, withRow, notKnownMatrix}
+use Rattle.matrix.specs.Whole.{invitations}
 use Rattle.message.specs.declared.Message.{Message}
 use Rattle.machine.specs.Own.{Own, sentRow, newestPermitted}
 use Rattle.machine.specs.Named.{countLimit}
 use Rattle.machine.specs.Sends.{invitationHead}
+use Rattle.machine.specs.Flags.{someone, participants}
 use Rattle.initiator.specs.declared.Initiator.{Initiator}
 use Rattle.initiator.specs.declared.InitiatorStep.{InitiatorStep}
-use Rattle.initiator.specs.Matrices.{someone, participants}
-use Rattle.initiator.specs.Begin.{wait, idle, invitations, search}
+use Rattle.initiator.specs.Begin.{wait, idle, search}
 use Rattle.initiator.specs.Step.{takeReport, stepBack, compare, silent, step}
 
 -- ---- the beginning

@@ -5,14 +5,13 @@ use Prim.Native.Nat.{ℕ, _+_, _-_}
 use lib.Dec.{eqb}
 use Rattle.book.specs.declared.Count.{Count}
 use Rattle.book.specs.declared.Process.{Process}
-use Rattle.book.specs.Bounds.{mark}
-use Rattle.consistency.specs.Known.{counters}
-use Rattle.matrix.specs.Matrix.{pick, asMatrix, withRow, notKnownMatrix}
+use Rattle.matrix.specs.Matrix.{pick, withRow, notKnownMatrix}
+use Rattle.matrix.specs.Whole.{invitations}
 use Rattle.machine.specs.Own.{Own, sentRow}
 use Rattle.machine.specs.Sends.{invitationHead, noPairs}
+use Rattle.machine.specs.Flags.{someone, participants, nobody}
 use Rattle.initiator.specs.declared.Initiator.{Initiator}
 use Rattle.initiator.specs.declared.InitiatorStep.{InitiatorStep}
-use Rattle.initiator.specs.Matrices.{someone, participants, nobody}
 
 -- "The initiator copies its matrix before each wait." "A round is one wait of at least one report, counted as the wait
 -- begins." The processes whose reports are awaited are those that get a message (K's Q: 5.2, steps 3, 4 and 8).
@@ -45,10 +44,6 @@ idle n me purpose candidate matrix =
       matrix = matrix;
       copy = matrix;
     }
-
--- one pair, naming the sender: `me` has sent p so many
-abbrev pub invitations : ℕ → List Count → List Count
-invitations me sent = asMatrix (λ p k. pick (eqb k me) (counters sent p) mark)
 
 -- "Each process begins at its newest checkpoint. The initiator keeps, for every ordered pair, the sender's candidate's sent
 -- counter or 'not known', and invites every other process with its own sent counter for it." With n = 1 there is nobody to

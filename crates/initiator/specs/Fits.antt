@@ -6,10 +6,11 @@ use lib.Dec.{ltb, eqb}
 use Rattle.book.specs.declared.Count.{Count}
 use Rattle.matrix.specs.Matrix.{pick, row, column}
 use Rattle.matrix.specs.Entries.{same}
+use Rattle.matrix.specs.Whole.{allRestZero, allNotKnown, allNoneAbove}
 use Rattle.machine.specs.Own.{Own, hasCheckpoint, sentRow, newestPermitted}
 use Rattle.machine.specs.Named.{countLimit}
+use Rattle.machine.specs.Flags.{someone, onlyParticipants}
 use Rattle.initiator.specs.declared.Initiator.{Initiator}
-use Rattle.initiator.specs.Matrices.{allRestZero, allNotKnown, allNoneAbove, someone, onlyParticipants}
 
 -- the matrix whose column the candidate goes by: while it waits the copy, since reports have changed the matrix
 abbrev pub keptMatrix : Initiator → List Count

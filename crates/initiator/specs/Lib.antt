@@ -1,4 +1,3 @@
-pub mod Matrices
 pub mod Fits
 pub mod Begin
 pub mod Step

@@ -3,19 +3,19 @@ use mathlib.Core.Bool.{Bool, true, _&&_, _||_, not}
 use mathlib.Core.List.{List}
 use Prim.Native.Nat.{ℕ, _-_}
 use lib.Dec.{eqb}
-use Rattle.book.specs.declared.Count.{Count}
 use Rattle.book.specs.Bounds.{mostProcesses}
 use Rattle.line_theory.specs.Over.{tab}
-use Rattle.matrix.specs.Matrix.{pick, asMatrix, entry, row, column, withRow, notKnownRow}
-use Rattle.matrix.specs.Entries.{differing, patch, same}
+use Rattle.matrix.specs.Matrix.{pick, row, column, withRow, notKnownRow}
+use Rattle.matrix.specs.Entries.{patch, same}
+use Rattle.matrix.specs.Whole.{polls}
 use Rattle.message.specs.declared.Message.{Message}
 use Rattle.message.specs.Layout.{pairCount}
 use Rattle.machine.specs.Own.{Own, sentRow, newestPermitted}
 use Rattle.machine.specs.Named.{isParticipant}
 use Rattle.machine.specs.Sends.{otherHead, noPairs, nothing}
+use Rattle.machine.specs.Flags.{flag, someone, participants}
 use Rattle.initiator.specs.declared.Initiator.{Initiator}
 use Rattle.initiator.specs.declared.InitiatorStep.{InitiatorStep}
-use Rattle.initiator.specs.Matrices.{flag, someone, participants}
 use Rattle.initiator.specs.Begin.{wait}
 
 -- the sender's row, which counts from 0
@@ -74,10 +74,6 @@ unfoldable pub polled : Initiator → List Bool
 polled state =
     tab mostProcesses
     (λ p. isParticipant (state .n) (state .me .0 - 1) p && not (same (column (state .matrix) p) (column (state .copy) p)))
-
--- "with the differing entries only": to process p, of what each process k sent to it
-abbrev pub polls : List Count → List Count → List Count
-polls matrix copy = asMatrix (λ p k. differing (entry matrix k p) (entry copy k p))
 
 -- "Then it polls each participant whose column differs from the copy, with the differing entries only." (K 5.2, steps 8, 9)
 unfoldable pub poll : Initiator → InitiatorStep

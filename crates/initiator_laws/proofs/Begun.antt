@@ -16,11 +16,11 @@ use Rattle.matrix.specs.Matrix.{pick, entry, column, withRow, isPair, notKnownA
 use Rattle.matrix.proofs.Theorems.{entry-with-row}
 use Rattle.machine.specs.Own.{Own, sentRow, newestPermitted}
 use Rattle.machine.specs.Named.{isParticipant, countLimit}
+use Rattle.machine.specs.Flags.{flag, someone, participants, nobody}
 use Rattle.machine_laws.specs.Own.{IsOwn}
 use Rattle.machine_laws.proofs.Pairs.{is-pair, pair-sym}
 use Rattle.machine_laws.proofs.Rows.{column-at, sent-at, not-known-at}
 use Rattle.initiator.specs.declared.Initiator.{Initiator}
-use Rattle.initiator.specs.Matrices.{flag, someone, participants, nobody}
 use Rattle.initiator.specs.Fits.{restartFits, stageFits}
 use Rattle.initiator.specs.Begin.{wait, idle, search, restart, begin}
 use Rattle.initiator_laws.specs.Statements.{BeginFits, FirstRound}

@@ -11,12 +11,13 @@ use Rattle.line_theory.proofs.Over.{all-in, all-out}
 use Rattle.consistency.specs.Known.{counters}
 use Rattle.matrix.specs.Matrix.{pick, entry, row, column, withRow, isPair, notKnownAt, notKnownRow}
 use Rattle.matrix.specs.Entries.{same, restZero, noneAbove}
+use Rattle.matrix.specs.Whole.{allRestZero, allNotKnown, allNoneAbove}
 use Rattle.matrix.proofs.Rows.{counter-of-row}
 use Rattle.matrix.proofs.Theorems.{entry-with-row, same-is-same}
 use Rattle.machine.specs.Named.{isParticipant}
-use Rattle.machine_laws.proofs.Tests.{or-second}
+use Rattle.machine.specs.Flags.{flag, onlyParticipants}
 use Rattle.machine_laws.proofs.Rows.{row-ext, row-at, rest-in, rest-out}
-use Rattle.initiator.specs.Matrices.{allRestZero, allNotKnown, allNoneAbove, flag, onlyParticipants}
+use Rattle.machine_laws.proofs.Tests.{or-second}
 
 -- ---- tests of a matrix
 

@@ -9,13 +9,14 @@ use Rattle.book.specs.declared.Count.{Count}
 use Rattle.book.proofs.Tests.{and-both, both-and}
 use Rattle.matrix.specs.Matrix.{pick, entry, row, column}
 use Rattle.matrix.specs.Entries.{same}
+use Rattle.matrix.specs.Whole.{allRestZero, allNoneAbove}
 use Rattle.matrix.proofs.Theorems.{same-is-same}
 use Rattle.machine.specs.Own.{Own, hasCheckpoint, sentRow, newestPermitted}
 use Rattle.machine.specs.Named.{countLimit}
+use Rattle.machine.specs.Flags.{someone, onlyParticipants}
 use Rattle.machine_laws.proofs.Rows.{row-at, sent-at}
 use Rattle.machine_laws.proofs.Checkpoints.{checkpoint-in, checkpoint-out}
 use Rattle.initiator.specs.declared.Initiator.{Initiator}
-use Rattle.initiator.specs.Matrices.{allRestZero, allNoneAbove, someone, onlyParticipants}
 use Rattle.initiator.specs.Fits.{keptMatrix, searchFits, stageFits, restartFits, entriesFit, waitFits, fits}
 use Rattle.initiator_laws.proofs.Entries.{Zeros, zeros-in, zeros-out, Below, below-in, below-out, Only, only-in, only-out}
 

@@ -14,6 +14,7 @@ use Rattle.message.specs.Formed.{isNamed, isPurpose}
 use Rattle.mail.specs.declared.Outgoing.{Outgoing}
 use Rattle.mail.specs.Outgoing.{roomQuestion}
 use Rattle.machine.specs.Own.{Own, ownOf, hasCheckpoint, newestPermitted}
+use Rattle.machine.specs.Flags.{someone}
 use Rattle.machine_laws.specs.Own.{IsOwn, Agree}
 use Rattle.machine_laws.proofs.Messages.{named-there}
 use Rattle.machine_laws.proofs.Checkpoints.{checkpoint-in}
@@ -21,7 +22,6 @@ use Rattle.machine_laws.proofs.Calls.{same-call, same-received}
 use Rattle.machine_laws.proofs.Theorems.{both-own, newest-exists, same-newest, same-row}
 use Rattle.initiator.specs.declared.Initiator.{Initiator}
 use Rattle.initiator.specs.declared.InitiatorStep.{InitiatorStep}
-use Rattle.initiator.specs.Matrices.{someone}
 use Rattle.initiator.specs.Fits.{keptMatrix, searchFits, stageFits, fits}
 use Rattle.initiator.specs.Begin.{search, begin}
 use Rattle.initiator.specs.Step.{takeReport, stepBack, compare, silent, step}

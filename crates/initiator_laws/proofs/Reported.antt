@@ -16,11 +16,11 @@ use Rattle.matrix.proofs.Theorems.{patch-not-raised}
 use Rattle.message.specs.declared.Message.{Message}
 use Rattle.machine.specs.Own.{Own}
 use Rattle.machine.specs.Named.{isParticipant}
-use Rattle.machine_laws.proofs.Tests.{or-first}
+use Rattle.machine.specs.Flags.{flag, someone}
 use Rattle.machine_laws.proofs.Rows.{row-at, zero-patched}
 use Rattle.machine_laws.proofs.Messages.{head-in, news-rest}
+use Rattle.machine_laws.proofs.Tests.{or-first}
 use Rattle.initiator.specs.declared.Initiator.{Initiator}
-use Rattle.initiator.specs.Matrices.{flag, someone}
 use Rattle.initiator.specs.Fits.{fits}
 use Rattle.initiator.specs.Step.{senderOf, wholeIfFirst, awaits, takeReport}
 use Rattle.initiator_laws.specs.Accepts.{Accepts}

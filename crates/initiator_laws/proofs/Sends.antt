@@ -25,10 +25,10 @@ use Rattle.mail.specs.Outgoing.{messageTo}
 use Rattle.machine.specs.Own.{Own, sentRow}
 use Rattle.machine.specs.Named.{isParticipant}
 use Rattle.machine.specs.Sends.{noPairs}
+use Rattle.machine.specs.Flags.{participants}
 use Rattle.machine_laws.specs.Own.{IsOwn}
 use Rattle.machine_laws.proofs.Pairs.{is-pair}
 use Rattle.machine_laws.proofs.Rows.{row-ext, row-at, column-at, sent-at}
-use Rattle.initiator.specs.Matrices.{participants}
 use Rattle.initiator.specs.Begin.{search}
 use Rattle.initiator.specs.Step.{poll, terminate}
 use Rattle.initiator_laws.specs.Statements.{PollIsDiff, PollBringsColumn, InvitationIsDiff, TerminationIsEmpty}

@@ -13,12 +13,12 @@ use Rattle.matrix.specs.Entries.{same}
 use Rattle.message.specs.declared.Message.{Message}
 use Rattle.machine.specs.Own.{Own, sentRow, newestPermitted}
 use Rattle.machine.specs.Named.{isParticipant, countLimit}
+use Rattle.machine.specs.Flags.{someone}
 use Rattle.machine_laws.proofs.Pairs.{self-no-pair}
 use Rattle.machine_laws.proofs.Rows.{column-at, sent-at}
 use Rattle.machine_laws.proofs.Checkpoints.{checkpoint-in}
 use Rattle.machine_laws.proofs.Theorems.{newest-exists, newest-falls, sent-falls}
 use Rattle.initiator.specs.declared.Initiator.{Initiator}
-use Rattle.initiator.specs.Matrices.{someone}
 use Rattle.initiator.specs.Fits.{fits}
 use Rattle.initiator.specs.Begin.{wait}
 use Rattle.initiator.specs.Step.{takeReport, stepBack, polled, poll, terminate, compare, silent, step}

@@ -9,9 +9,9 @@ use Rattle.message.specs.declared.Message.{Message}
 use Rattle.message.specs.Formed.{isNamed, isPurpose}
 use Rattle.message_laws.specs.Formed.{IsFormed}
 use Rattle.machine.specs.Own.{Own}
+use Rattle.machine.specs.Flags.{someone}
 use Rattle.machine_laws.specs.Own.{IsOwn}
 use Rattle.initiator.specs.declared.Initiator.{Initiator}
-use Rattle.initiator.specs.Matrices.{someone}
 use Rattle.initiator.specs.Fits.{fits}
 use Rattle.initiator.specs.Step.{senderOf, awaits, takeReport, stepBack, polled}
 

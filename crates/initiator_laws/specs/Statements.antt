@@ -21,8 +21,8 @@ use Rattle.machine.specs.Own.{Own, ownOf}
 use Rattle.machine.specs.Named.{isParticipant, countLimit}
 use Rattle.machine_laws.specs.Own.{IsOwn, SameTo}
 use Rattle.consistency.specs.Known.{counters}
+use Rattle.machine.specs.Flags.{someone, participants}
 use Rattle.initiator.specs.declared.Initiator.{Initiator}
-use Rattle.initiator.specs.Matrices.{someone, participants}
 use Rattle.initiator.specs.Fits.{fits}
 use Rattle.initiator.specs.Begin.{begin, search}
 use Rattle.initiator.specs.Step.{stepBack, poll, terminate, step}

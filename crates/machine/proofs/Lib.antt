@@ -1,4 +1,3 @@
-pub mod Tests
 pub mod Flags
 pub mod Calls
 pub mod Answers

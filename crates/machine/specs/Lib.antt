@@ -1,4 +1,5 @@
 pub mod Own
 pub mod Named
+pub mod Flags
 pub mod Sends
 pub mod Given

@@ -1,4 +1,4 @@
-// Document 01, "A search": what the initiator's and the participant's machine share.
+// Document 01, "A search": what the initiator's and the participant's machine share, and flags for processes.
 use book::Checkpoint;
 use book::Count;
 use book::Counter;
@@ -8,12 +8,16 @@ use mail::Outgoing;
 use message::Head;
 use message::Message;
 ghost use mathlib.Core.Path.{_≡_};
+ghost use mathlib.Core.Bool.{_&&_, not};
 ghost use Prim.Native.Nat.{_-_, _≤_, _<_};
+ghost use lib.Dec.{eqb};
 ghost use Rattle.book.specs.View.{count, S};
+ghost use Rattle.line_theory.specs.Over.{tab};
 ghost use Rattle.matrix.specs.Matrix.{asRow, asMatrix};
 ghost use Rattle.consistency.specs.Known.{counters};
 ghost use Rattle.consistency.specs.Given.{Whole, IsProcess};
-ghost use Rattle.machine.specs.Named.{participantNamed};
+ghost use Rattle.machine.specs.Named.{participantNamed, isParticipant};
+ghost use Rattle.machine.specs.Flags.{flag, someone, onlyParticipants, participants};
 ghost use Rattle.machine.specs.Sends.{nothing, onlyTo, isTermination};
 
 // What counts of rounds and of deliveries stay below.
@@ -30,6 +34,73 @@ pub fn participant_named(n: usize, me: Process, initiator: Process) -> bool
         return false;
     }
     me.0 != initiator.0
+}
+
+// Is it a participant? Both count from 0.
+pub fn is_participant(n: usize, me: usize, p: usize) -> bool
+    ensures { λ r. ⌜ r ≡ isParticipant n me p ⌝ }
+{
+    p < n && p != me
+}
+
+// Every participant.
+pub fn participants(n: usize, me: Process) -> [bool; 16]
+    requires { ⌜ 1 ≤ me .0 ⌝ }
+    ensures { λ r. ⌜ r ≡ participants n (me .0 - 1) ⌝ }
+{
+    let mut flags = [false; 16];
+    let own = me.0 - 1;
+    let mut p = 0;
+    while p < book::MOST_PROCESSES {
+        flags[p] = is_participant(n, own, p);
+        p += 1;
+    }
+    flags
+}
+
+// Is some process flagged? Whether the initiator still waits is asked here.
+pub fn someone(flags: [bool; 16]) -> bool
+    ensures { λ r. ⌜ r ≡ someone flags ⌝ }
+{
+    let mut p = 0;
+    while p < book::MOST_PROCESSES {
+        if flags[p] {
+            return true;
+        }
+        p += 1;
+    }
+    false
+}
+
+// Are only participants awaited?
+pub fn only_participants(n: usize, me: Process, flags: [bool; 16]) -> bool
+    requires { ⌜ 1 ≤ me .0 ⌝ }
+    ensures { λ r. ⌜ r ≡ onlyParticipants n (me .0 - 1) flags ⌝ }
+{
+    let own = me.0 - 1;
+    let mut p = 0;
+    while p < book::MOST_PROCESSES {
+        if flags[p] && !is_participant(n, own, p) {
+            return false;
+        }
+        p += 1;
+    }
+    true
+}
+
+// The flags without process j's.
+pub fn without(flags: [bool; 16], j: Process) -> [bool; 16]
+    requires { ⌜ 1 ≤ j .0 ⌝ }
+    ensures { λ r. ⌜ r ≡ tab 16 (λ p. flag flags p && not (eqb p (j .0 - 1))) ⌝ }
+{
+    let mut next = [false; 16];
+    let own = j.0 - 1;
+    let mut p = 0;
+    while p < book::MOST_PROCESSES {
+        next[p] = flags[p] && p != own;
+        p += 1;
+    }
+    next
 }
 
 // The sent counters of process j's checkpoint r. Inner: asks for the rows of a whole table and a checkpoint that exists.

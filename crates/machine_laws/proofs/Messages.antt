@@ -4,23 +4,19 @@ use mathlib.Core.Bool.{Bool, true, false, not, _&&_, _||_}
 use Prim.Native.Nat.{ℕ, _-_, _≤_, _<_}
 use native.Mathlib.Decide.{decLt}
 use native.Mathlib.Omega.{arith}
-use borrow.Author.Tests.{leb-true, eq-eqb, ne-eqb}
-use lib.Dec.{leb, eqb}
+use borrow.Author.Tests.{eq-eqb, ne-eqb}
+use lib.Dec.{eqb}
 use Rattle.book.specs.Bounds.{mark}
 use Rattle.book.proofs.Tests.{and-both}
 use Rattle.consistency.specs.Known.{counters}
 use Rattle.matrix.specs.Matrix.{isPair}
 use Rattle.message.specs.declared.Message.{Message}
 use Rattle.message.specs.Formed.{isKind, isPurpose, isNamed, headFormed, participantEnd}
+use Rattle.message.proofs.Heads.{named-in}
 use Rattle.message_laws.specs.Formed.{IsFormed}
 use Rattle.machine_laws.proofs.Pairs.{no-pair}
 
-pub named-in : (n process : ℕ) → isNamed n process ≡ true → (1 ≤ process) × (process ≤ n)
-named-in n process h =
-    let b = and-both (leb 1 process) (leb process n) h in
-    (leb-true 1 process (b .0), leb-true process n (b .1))
-
--- its place is there
+-- the place of a named process is there
 pub named-there : (n process : ℕ) → isNamed n process ≡ true → process - 1 < n
 named-there n process h = omega (arith, named-in n process h .0, named-in n process h .1)
 

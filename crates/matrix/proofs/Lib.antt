@@ -1,4 +1,5 @@
 pub mod Rows
 pub mod Before
+pub mod Sparse
 pub mod News
 pub mod Theorems

@@ -1,3 +1,4 @@
 pub mod Matrix
 pub mod Entries
+pub mod Whole
 pub mod Statements

@@ -1,8 +1,15 @@
 // Document 01, "A search": what a machine knows of sent counters, as rows of sixteen entries and a matrix of sixteen rows,
 // and what differs between two rows.
+mod whole;
+
 use book::Count;
 use book::Counter;
 use book::Process;
+pub use whole::all_none_above;
+pub use whole::all_not_known;
+pub use whole::all_rest_zero;
+pub use whole::invitations;
+pub use whole::polls;
 ghost use mathlib.Core.Path.{_≡_};
 ghost use mathlib.Core.Bool.{_||_};
 ghost use Prim.Native.Nat.{_-_, _≤_};
@@ -113,7 +120,7 @@ pub fn not_known_matrix(n: usize) -> [Count; 256]
 }
 
 // The present entry as news, where it differs from the one held.
-pub fn differing(now: Count, held: Count) -> Count
+fn differing(now: Count, held: Count) -> Count
     ensures { λ r. ⌜ r .0 ≡ differing (now .0) (held .0) ⌝ }
 {
     if now.0 == held.0 {
@@ -200,7 +207,7 @@ pub fn rest_zero(n: usize, j: Process, a: [Count; 16]) -> bool
 }
 
 // Is no entry above the other row's?
-pub fn none_above(a: [Count; 16], b: [Count; 16]) -> bool
+fn none_above(a: [Count; 16], b: [Count; 16]) -> bool
     ensures { λ r. ⌜ r ≡ noneAbove a b ⌝ }
 {
     let mut p = 0;

@@ -1,3 +1,4 @@
+pub mod Tests
 pub mod Pairs
 pub mod Heads
 pub mod PairTurns

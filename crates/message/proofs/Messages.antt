@@ -4,8 +4,8 @@ use mathlib.Core.Bool.{Bool, true, false, _&&_, true≢false}
 use mathlib.Core.List.{List}
 use Prim.Native.Nat.{ℕ, _-_, _≤_}
 use lib.ListN.{length}
-use lib.Dec.{leb, eqb}
-use borrow.Author.Tests.{eq-eqb, ne-eqb, leb-true}
+use lib.Dec.{eqb}
+use borrow.Author.Tests.{eq-eqb, ne-eqb}
 use Rattle.varint.specs.Sequence.{Numbers}
 use Rattle.book.proofs.Tests.{and-both}
 use Rattle.consistency.specs.Known.{counters}
@@ -18,7 +18,8 @@ use Rattle.message.specs.Layout.{pairCount}
 use Rattle.message.specs.Formed.{isKind, isPurpose, isNamed, headFormed, participantEnd, beginFormed, countedFormed, newsCounted, invitationFormed, numbersFormed, numbersOf, messageOf, messageFormed}
 use Rattle.message.specs.Parts.{numbersFrom, HeadFound, PairsFound}
 use Rattle.message.specs.Read.{noMessage, messageRead}
-use Rattle.message.proofs.Heads.{and-first, and-second}
+use Rattle.message.proofs.Tests.{and-first, and-second}
+use Rattle.message.proofs.Heads.{named-in}
 
 -- ---- an invitation's pairs
 
@@ -42,9 +43,7 @@ unfolding headFormed
 head-sender n kind purpose sender e =
     let a = and-both (isKind kind) _ e in
     let b = and-both (isPurpose purpose) _ (a .1) in
-    let d = and-both (isNamed n sender) _ (b .1) in
-    let f = and-both (leb 1 sender) _ (d .0) in
-    (leb-true 1 sender (f .0), leb-true sender n (f .1))
+    named-in n sender (and-both (isNamed n sender) _ (b .1) .0)
 
 -- ---- the message
 

@@ -20,7 +20,7 @@ use Rattle.message.specs.declared.PairsRead.{PairsRead}
 use Rattle.message.specs.Layout.{noNews}
 use Rattle.message.specs.Formed.{pairFormed, pairsFormed, newsIn, countedFormed, newsCounted}
 use Rattle.message.specs.Parts.{numbersFrom, CountedFound, PairsFound}
-use Rattle.message.proofs.Heads.{and-first, and-second}
+use Rattle.message.proofs.Tests.{and-first, and-second}
 
 -- what a formed pair is
 pub pair-in : (n end last process counter : ℕ) → pairFormed n end last process counter ≡ true

@@ -1,11 +1,9 @@
 -- From the questions of a call, put in turn, to its answer.
-use mathlib.Core.Path.{_≡_, refl, sym, ap, _∙_}
-use mathlib.Core.Bool.{Bool, true, false, not, _&&_}
+use mathlib.Core.Path.{_≡_, sym, ap, subst, _∙_}
+use mathlib.Core.Bool.{Bool, true, false}
 use mathlib.Core.List.{List}
 use Prim.Native.Nat.{ℕ, _-_, _≤_}
 use native.Mathlib.Omega.{arith}
-use borrow.Author.Tests.{leb-true}
-use lib.Dec.{eqb, leb}
 use Rattle.book.specs.declared.Answer.{Answer}
 use Rattle.book.specs.declared.Answer.the-variants.{Accepted, Refused}
 use Rattle.book.specs.declared.Count.{Count}
@@ -16,17 +14,14 @@ use Rattle.book.specs.InTurn.{_then_, ask, answerTo}
 use Rattle.book.specs.Check.{tablesQuestion}
 use Rattle.book.specs.View.{count}
 use Rattle.book.proofs.Questions.{then-passed, then-refused, then-none, asked-yes, ask-yes, ask-no, answer-passed, answer-refused, kept-passed, kept-refused}
-use Rattle.book.proofs.Tests.{and-both}
 use Rattle.matrix.specs.Matrix.{notKnownRow}
 use Rattle.matrix.specs.Entries.{allLower}
 use Rattle.message.specs.declared.Message.{Message}
 use Rattle.message.specs.declared.ReadMessage.{ReadMessage}
-use Rattle.message.specs.Formed.{isNamed, isPurpose, messageFormed}
-use Rattle.mail.specs.declared.Outgoing.{Outgoing}
-use Rattle.mail.specs.Outgoing.{roomQuestion, noLengths, sentBytes, sentLengths}
+use Rattle.message.specs.Formed.{isPurpose, messageFormed}
 use Rattle.machine.specs.Own.{Own, ownOf}
 use Rattle.machine.specs.Named.{participantNamed}
-use Rattle.machine.proofs.Answers.{by-first, by-second, by-third, by-last, returned-refused, returned-sent, not-sent}
+use Rattle.machine.proofs.Answers.{Answered}
 use Rattle.participant.specs.declared.Participant.{Participant}
 use Rattle.participant.specs.declared.ParticipantAnswer.{ParticipantAnswer}
 use Rattle.participant.specs.declared.ParticipantStep.{ParticipantStep}
@@ -34,7 +29,7 @@ use Rattle.participant.specs.declared.Stage.the-variants.{Before}
 use Rattle.participant.specs.Fits.{fits}
 use Rattle.participant.specs.Step.{first, awaits, step}
 use Rattle.participant.specs.Calls.{noParticipant, firstQuestion, firstState, ownOfState, readBy, stateQuestion, messageQuestion, stepOn, receiveQuestion, stateAfter, lengthsAfter, bytesAfter}
-use Rattle.participant.proofs.Fits.{named-there}
+use Rattle.participant.proofs.Fitting.{named-there}
 
 -- ---- a participant's first state
 
@@ -117,11 +112,7 @@ state-named n own state h =
     let initiator = state .initiator .0 in
     let passes =
     then-none (ask 10 (participantNamed n me initiator)) (λ _. ask 11 (isPurpose (state .purpose)) then λ _. ask 13 (fits own state)) h in
-    let named = asked-yes 9 (participantNamed n me initiator) (passes .0) in
-    let both = and-both (isNamed n me) (isNamed n initiator && not (eqb me initiator)) named in
-    let other = and-both (isNamed n initiator) (not (eqb me initiator)) (both .1) in
-    let there = and-both (leb 1 initiator) (leb initiator n) (other .0) in
-    (named-there n me initiator named, (leb-true 1 initiator (there .0), leb-true initiator n (there .1)))
+    named-there n me initiator (asked-yes 9 (participantNamed n me initiator) (passes .0))
 
 -- the step, on the rows of the shape and the message that was read
 pub step-on : (shape : Shape) (sent received : List ℕ) (state : Participant) (s : List ℕ) (rows : TableRows) (m : Message) (next : ParticipantStep)
@@ -138,91 +129,33 @@ pub message-asked : (n : ℕ) (state : Participant) (s : List ℕ) (read : ReadM
 message-asked n state s read p q =
     λ i. (ask 14 (p i) then λ _. ask 15 (awaits state (q i)) then λ _. ask 16 (allLower (q i .news) (state .column)))
 
-module _ (shape : Shape) (sent received : List ℕ) (state : Participant) (s out : List ℕ) where
-  abbrev own-tables : ℕ
-  own-tables = tablesQuestion shape sent received
-
-  abbrev own-state : ℕ
-  own-state = stateQuestion (shape .n) (ownOfState shape sent received state) state
-
-  abbrev message : ℕ
-  message = messageQuestion (shape .n) state s
-
-  abbrev room : ℕ
-  room = roomQuestion (stepOn shape sent received state s .outgoing) out
-
-  abbrev Received : ParticipantAnswer → List ℕ → Type 0
-  Received r bytes =
-      (r .answer ≡ answerTo (receiveQuestion shape sent received state s out))
-      × ((r .state ≡ stateAfter shape sent received state s out)
-      × ((r .lengths ≡ lengthsAfter shape sent received state s out) × (bytes ≡ bytesAfter shape sent received state s out)))
-
-  -- what `refused` hands back
-  abbrev Told : ℕ → ParticipantAnswer → Type 0
-  Told found r = (r .answer ≡ answerTo found) × ((r .state ≡ state) × (r .lengths ≡ noLengths))
-
-  stopped : (found : ℕ) (r : ParticipantAnswer) (bytes : List ℕ) → receiveQuestion shape sent received state s out ≡ found
-      → (found ≡ 0 → ⊥) → Told found r → bytes ≡ out → Received r bytes
-  unfolding stateAfter lengthsAfter bytesAfter
-  stopped found r bytes e h told b =
-      let done = stepOn shape sent received state s in
-      returned-refused (receiveQuestion shape sent received state s out) found state (done .state) (done .outgoing) out (r .answer) (r .state)
-      (r .lengths)
-      bytes
-      e
-      h
-      (told .0)
-      (told .1 .0)
-      (told .1 .1)
-      b
-
-  pub receive-tables : (found : ℕ) (r : ParticipantAnswer) → found ≡ own-tables → (found ≡ 0 → ⊥) → Told found r → Received r out
-  unfolding receiveQuestion
-  receive-tables found r e h told =
-      stopped found r out (by-first own-tables own-state message room (λ z. h (e ∙ z)) ∙ sym e) h told refl
-
-  module _ (tables-pass : own-tables ≡ 0) where
-    pub receive-state : (found : ℕ) (r : ParticipantAnswer) → found ≡ own-state → (found ≡ 0 → ⊥) → Told found r → Received r out
-    unfolding receiveQuestion
-    receive-state found r e h told =
-        stopped found r out (by-second own-tables own-state message room tables-pass (λ z. h (e ∙ z)) ∙ sym e) h told refl
-
-    module _ (state-passes : own-state ≡ 0) where
-      pub receive-message : (found : ℕ) (r : ParticipantAnswer) → found ≡ message → (found ≡ 0 → ⊥) → Told found r → Received r out
-      unfolding receiveQuestion
-      receive-message found r e h told =
-          stopped found r out (by-third own-tables own-state message room tables-pass state-passes (λ z. h (e ∙ z)) ∙ sym e) h told refl
-
-      -- the step was made; its messages are sent if there is room
-      module _ (message-passes : message ≡ 0) (next : ParticipantStep) (is-next : next ≡ stepOn shape sent received state s) (found : ℕ)
-          (bytes : List ℕ) (is-room : found ≡ roomQuestion (next .outgoing) out)
-          (is-sent : bytes ≡ sentBytes (roomQuestion (next .outgoing) out) (next .outgoing) out) where
-        abbrev outgoing : Outgoing
-        outgoing = stepOn shape sent received state s .outgoing
-
-        asked-room : found ≡ room
-        asked-room = is-room ∙ ap (λ (t : ParticipantStep). roomQuestion (t .outgoing) out) is-next
-
-        sent-bytes : bytes ≡ sentBytes room outgoing out
-        sent-bytes = is-sent ∙ ap (λ (t : ParticipantStep). sentBytes (roomQuestion (t .outgoing) out) (t .outgoing) out) is-next
-
-        pub receive-full : (r : ParticipantAnswer) → (found ≡ 0 → ⊥) → Told found r → Received r bytes
-        unfolding receiveQuestion
-        receive-full r h told =
-            stopped found r bytes (by-last own-tables own-state message room tables-pass state-passes message-passes ∙ sym asked-room) h told
-            (not-sent outgoing out bytes (λ z. h (asked-room ∙ z)) sent-bytes)
-
-        pub receive-sent : (lengths : List ℕ) → found ≡ 0 → lengths ≡ sentLengths (roomQuestion (next .outgoing) out) (next .outgoing)
-            → Received (record { answer = Accepted; state = next .state; lengths = lengths }) bytes
-        unfolding receiveQuestion stateAfter lengthsAfter bytesAfter
-        receive-sent lengths z l =
-            returned-sent (receiveQuestion shape sent received state s out) state (stepOn shape sent received state s .state) outgoing out Accepted
-            (next .state)
-            lengths
-            bytes
-            (by-last own-tables own-state message room tables-pass state-passes message-passes)
-            (sym asked-room ∙ z)
-            refl
-            (ap (λ (t : ParticipantStep). t .state) is-next)
-            (l ∙ ap (λ (t : ParticipantStep). sentLengths (roomQuestion (t .outgoing) out) (t .outgoing)) is-next)
-            sent-bytes
+pub answer-received : (shape : Shape) (sent received : List ℕ) (state : Participant) (s out : List ℕ) (next : ParticipantStep) (a : ParticipantAnswer)
+    (bytes : List ℕ) → next ≡ stepOn shape sent received state s
+    → Answered (tablesQuestion shape sent received) (stateQuestion (shape .n) (ownOfState shape sent received state) state)
+    (messageQuestion (shape .n) state s)
+    state
+    (next .state)
+    (next .outgoing)
+    out
+    (a .answer)
+    (a .state)
+    (a .lengths)
+    bytes
+    → (a .answer ≡ answerTo (receiveQuestion shape sent received state s out))
+    × ((a .state ≡ stateAfter shape sent received state s out)
+    × ((a .lengths ≡ lengthsAfter shape sent received state s out) × (bytes ≡ bytesAfter shape sent received state s out)))
+unfolding receiveQuestion stateAfter lengthsAfter bytesAfter
+answer-received shape sent received state s out next a bytes e answered =
+    subst
+    (λ (t : ParticipantStep).
+    Answered (tablesQuestion shape sent received) (stateQuestion (shape .n) (ownOfState shape sent received state) state)
+    (messageQuestion (shape .n) state s)
+    state
+    (t .state)
+    (t .outgoing)
+    out
+    (a .answer)
+    (a .state)
+    (a .lengths)
+    bytes)
+    e answered

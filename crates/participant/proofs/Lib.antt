@@ -1,3 +1,3 @@
-pub mod Fits
+pub mod Fitting
 pub mod Steps
 pub mod Calls

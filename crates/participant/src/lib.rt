@@ -1,28 +1,24 @@
 // Document 01, "A search", and K 5.3: the participant's machine, a struct by value whose steps take it and hand it back.
+mod fits;
+mod step;
+
 use book::Answer;
 use book::Checkpoint;
 use book::Count;
 use book::Counter;
 use book::Process;
 use book::Shape;
-use book::TableRows;
 use mail::Outgoing;
-use message::Head;
-use message::Message;
 use message::ReadMessage;
 ghost use mathlib.Core.Path.{_≡_};
 ghost use Prim.Native.Nat.{_-_, _≤_};
-ghost use Rattle.book.specs.View.{count};
 ghost use Rattle.book.specs.Check.{tablesQuestion};
 ghost use Rattle.book.specs.InTurn.{_then_, ask, answerTo};
 ghost use Rattle.matrix.specs.Entries.{allLower};
 ghost use Rattle.mail.specs.Outgoing.{noLengths};
 ghost use Rattle.machine.specs.Own.{ownOf};
-ghost use Rattle.machine.specs.Given.{Given};
-ghost use Rattle.participant.specs.declared.Stage.the-variants.{Ended};
-ghost use Rattle.participant.specs.Fits.{searchFits, unknownOn, stageFits, fits};
-ghost use Rattle.participant.specs.Step.{kindAwaited, awaits, endOnOldest, end, stepBack, reportOf, silent, step};
-ghost use Rattle.participant.specs.Calls.{noParticipant, firstQuestion, firstState, stateQuestion, messageQuestion, receiveQuestion, stateAfter, lengthsAfter, bytesAfter};
+ghost use Rattle.participant.specs.Step.{awaits};
+ghost use Rattle.participant.specs.Calls.{noParticipant, firstQuestion, firstState, stateQuestion, receiveQuestion, stateAfter, lengthsAfter, bytesAfter};
 
 // How far a participant has come: before the invitation, in the search, or ended.
 pub enum Stage {
@@ -62,17 +58,6 @@ pub struct ParticipantAnswer {
     pub answer: Answer,
     pub state: Participant,
     pub lengths: [usize; 16],
-}
-
-// What kind of message is awaited?
-fn kind_awaited(stage: Stage, kind: u64) -> bool
-    ensures { λ r. ⌜ r ≡ kindAwaited stage kind ⌝ }
-{
-    match stage {
-        Stage::Before => kind == 1,
-        Stage::Searching => kind == 2,
-        Stage::Ended => false,
-    }
 }
 
 // Beside a refusal.
@@ -145,109 +130,6 @@ impl Participant {
         }
     }
 
-    // Is the kept row the candidate's, and the candidate the newest that the kept column permits?
-    fn search_fits(self, rows: TableRows, sent: &[Counter], received: &[Counter]) -> bool
-        requires { ⌜ Given rows (now sent) (now received) (self .me .0) ⌝ }
-        requires { ⌜ (1 ≤ self .candidate .0) × (self .candidate .0 ≤ count (rows .shape) (self .me .0 - 1)) ⌝ }
-        ensures { λ r. ⌜ r ≡ searchFits (ownOf (rows .shape) (now (sent .entry)) (now (received .entry)) (self .me .0 - 1)) self ⌝ }
-    {
-        let me = self.me;
-        let candidate = self.candidate;
-        let row = self.row;
-        let column = self.column;
-        let shape = rows.shape;
-        let counts = shape.counts;
-        let place = me.0 - 1;
-        let own = machine::sent_row(rows, sent, me, candidate);
-        if !matrix::same(row, own) {
-            return false;
-        }
-        let newest = consistency::newest_permitted(
-            rows,
-            received,
-            me,
-            Checkpoint(counts[place]),
-            column,
-        );
-        candidate.0 == newest.0
-    }
-
-    // Is nothing known, on this checkpoint?
-    fn unknown_on(self, r: Checkpoint) -> bool
-        requires { ⌜ 1 ≤ self .me .0 ⌝ }
-        ensures { λ a. ⌜ a ≡ unknownOn (r .0) self ⌝ }
-    {
-        let me = self.me;
-        let candidate = self.candidate;
-        let row = self.row;
-        let column = self.column;
-        if candidate.0 != r.0 {
-            return false;
-        }
-        let unknown = matrix::not_known_row(self.n, me);
-        if !matrix::same(row, unknown) {
-            return false;
-        }
-        matrix::same(column, unknown)
-    }
-
-    // The conditions that depend on how far it has come.
-    fn stage_fits(self, rows: TableRows, sent: &[Counter], received: &[Counter]) -> bool
-        requires { ⌜ Given rows (now sent) (now received) (self .me .0) ⌝ }
-        requires { ⌜ (1 ≤ self .candidate .0) × (self .candidate .0 ≤ count (rows .shape) (self .me .0 - 1)) ⌝ }
-        ensures { λ r. ⌜ r ≡ stageFits (ownOf (rows .shape) (now (sent .entry)) (now (received .entry)) (self .me .0 - 1)) self (self .stage) ⌝ }
-    {
-        let shape = rows.shape;
-        let counts = shape.counts;
-        let me = self.me;
-        let place = me.0 - 1;
-        let stage = self.stage;
-        match stage {
-            Stage::Before => self.unknown_on(Checkpoint(counts[place])),
-            Stage::Searching => self.search_fits(rows, sent, received),
-            Stage::Ended => self.end_fits(rows, sent, received),
-        }
-    }
-
-    // Once it has ended: by purpose 2 on the oldest checkpoint, nothing known.
-    fn end_fits(self, rows: TableRows, sent: &[Counter], received: &[Counter]) -> bool
-        requires { ⌜ Given rows (now sent) (now received) (self .me .0) ⌝ }
-        requires { ⌜ (1 ≤ self .candidate .0) × (self .candidate .0 ≤ count (rows .shape) (self .me .0 - 1)) ⌝ }
-        ensures { λ r. ⌜ r ≡ stageFits (ownOf (rows .shape) (now (sent .entry)) (now (received .entry)) (self .me .0 - 1)) self Ended ⌝ }
-    {
-        if self.purpose == 2 {
-            return self.unknown_on(Checkpoint(1));
-        }
-        self.search_fits(rows, sent, received)
-    }
-
-    // Does the state fit the tables (question 13)?
-    fn fits(self, rows: TableRows, sent: &[Counter], received: &[Counter]) -> bool
-        requires { ⌜ Given rows (now sent) (now received) (self .me .0) ⌝ }
-        ensures { λ r. ⌜ r ≡ fits (ownOf (rows .shape) (now (sent .entry)) (now (received .entry)) (self .me .0 - 1)) self ⌝ }
-    {
-        let shape = rows.shape;
-        let counts = shape.counts;
-        let me = self.me;
-        let candidate = self.candidate;
-        let place = me.0 - 1;
-        let row = self.row;
-        let column = self.column;
-        if self.n != shape.n {
-            return false;
-        }
-        if candidate.0 < 1 || counts[place] < candidate.0 {
-            return false;
-        }
-        if !matrix::rest_zero(self.n, me, row) {
-            return false;
-        }
-        if !matrix::rest_zero(self.n, me, column) {
-            return false;
-        }
-        self.stage_fits(rows, sent, received)
-    }
-
     // Questions 10, 11 and 13 of a state, on accepted tables.
     fn state_question(self, shape: Shape, sent: &[Counter], received: &[Counter]) -> u32
         requires { ⌜ tablesQuestion shape (now sent) (now received) ≡ 0 ⌝ }
@@ -268,23 +150,6 @@ impl Participant {
         0
     }
 
-    // Is the message awaited here (question 15)?
-    fn awaits(self, message: Message) -> bool
-        ensures { λ r. ⌜ r ≡ awaits self message ⌝ }
-    {
-        let head = message.head;
-        let sender = head.sender;
-        let initiator = self.initiator;
-        let stage = self.stage;
-        if sender.0 != initiator.0 {
-            return false;
-        }
-        if head.purpose != self.purpose {
-            return false;
-        }
-        kind_awaited(stage, head.kind)
-    }
-
     // Questions 14 to 16 of a message that was read.
     fn message_question(self, read: ReadMessage) -> u32
         ensures { λ r. ⌜ r ≡ (ask 14 (read .formed) then λ _. ask 15 (awaits self (read .message)) then λ _. ask 16 (allLower (read .message .news) (self .column))) ⌝ }
@@ -302,146 +167,6 @@ impl Participant {
             return 16;
         }
         0
-    }
-
-    // The invitation of purpose 2.
-    fn end_on_oldest(self) -> Participant
-        ensures { λ r. ⌜ r ≡ endOnOldest self ⌝ }
-    {
-        let me = self.me;
-        let initiator = self.initiator;
-        let row = self.row;
-        let column = self.column;
-        Participant {
-            n: self.n,
-            me,
-            initiator,
-            purpose: self.purpose,
-            stage: Stage::Ended,
-            candidate: Checkpoint(1),
-            row,
-            column,
-        }
-    }
-
-    // The termination.
-    fn end(self) -> Participant
-        ensures { λ r. ⌜ r ≡ end self ⌝ }
-    {
-        let me = self.me;
-        let initiator = self.initiator;
-        let candidate = self.candidate;
-        let row = self.row;
-        let column = self.column;
-        Participant {
-            n: self.n,
-            me,
-            initiator,
-            purpose: self.purpose,
-            stage: Stage::Ended,
-            candidate,
-            row,
-            column,
-        }
-    }
-
-    // The newest checkpoint that is permitted with the message's counters, and its row.
-    fn step_back(
-        self,
-        rows: TableRows,
-        sent: &[Counter],
-        received: &[Counter],
-        message: Message,
-    ) -> Participant
-        requires { ⌜ Given rows (now sent) (now received) (self .me .0) ⌝ }
-        ensures { λ r. ⌜ r ≡ stepBack (ownOf (rows .shape) (now (sent .entry)) (now (received .entry)) (self .me .0 - 1)) self message ⌝ }
-    {
-        let me = self.me;
-        let initiator = self.initiator;
-        let held = self.column;
-        let news = message.news;
-        let shape = rows.shape;
-        let counts = shape.counts;
-        let place = me.0 - 1;
-        let column = matrix::patch(held, news);
-        let candidate = consistency::newest_permitted(
-            rows,
-            received,
-            me,
-            Checkpoint(counts[place]),
-            column,
-        );
-        let row = machine::sent_row(rows, sent, me, candidate);
-        Participant {
-            n: self.n,
-            me,
-            initiator,
-            purpose: self.purpose,
-            stage: Stage::Searching,
-            candidate,
-            row,
-            column,
-        }
-    }
-
-    // The report of a step back.
-    fn report_of(self, after: Participant) -> ParticipantStep
-        requires { ⌜ (1 ≤ self .initiator .0) × (self .initiator .0 ≤ 16) ⌝ }
-        ensures { λ r. ⌜ r ≡ reportOf self after ⌝ }
-    {
-        let me = self.me;
-        let initiator = self.initiator;
-        let held = self.row;
-        let row = after.row;
-        let news = matrix::diff(row, held);
-        let head = Head {
-            kind: 2,
-            purpose: self.purpose,
-            sender: me,
-        };
-        let outgoing = machine::only_to(head, initiator, news);
-        ParticipantStep {
-            state: after,
-            outgoing,
-        }
-    }
-
-    // A state that sends nothing.
-    fn silent(self) -> ParticipantStep
-        ensures { λ r. ⌜ r ≡ silent self ⌝ }
-    {
-        let me = self.me;
-        let head = Head {
-            kind: 2,
-            purpose: self.purpose,
-            sender: me,
-        };
-        ParticipantStep {
-            state: self,
-            outgoing: machine::nothing(head),
-        }
-    }
-
-    // The step that a message asks for. Inner: the message was awaited.
-    pub fn step(
-        self,
-        rows: TableRows,
-        sent: &[Counter],
-        received: &[Counter],
-        message: Message,
-    ) -> ParticipantStep
-        requires { ⌜ Given rows (now sent) (now received) (self .me .0) ⌝ }
-        requires { ⌜ (1 ≤ self .initiator .0) × (self .initiator .0 ≤ 16) ⌝ }
-        ensures { λ r. ⌜ r ≡ step (ownOf (rows .shape) (now (sent .entry)) (now (received .entry)) (self .me .0 - 1)) self message ⌝ }
-    {
-        let head = message.head;
-        if head.purpose == 2 {
-            return self.end_on_oldest().silent();
-        }
-        if machine::is_termination(message) {
-            return self.end().silent();
-        }
-        self.report_of(self.step_back(rows, sent, received, message))
     }
 
     // The question that refuses, with the state and no lengths.

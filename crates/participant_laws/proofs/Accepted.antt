@@ -15,13 +15,14 @@ use Rattle.matrix.specs.Entries.{same, restZero, patch}
 use Rattle.matrix.proofs.Theorems.{same-is-same, patch-not-raised}
 use Rattle.message.specs.declared.Message.{Message}
 use Rattle.message.specs.Formed.{isNamed}
+use Rattle.message.proofs.Heads.{named-in}
 use Rattle.machine.specs.Own.{Own, hasCheckpoint, sentRow, newestPermitted}
 use Rattle.machine.specs.Sends.{isTermination}
 use Rattle.machine.specs.Named.{participantNamed}
 use Rattle.machine_laws.specs.Own.{IsOwn}
 use Rattle.machine_laws.proofs.Checkpoints.{checkpoint-in}
 use Rattle.machine_laws.proofs.Rows.{sent-at, not-known-pair, not-known-rest}
-use Rattle.machine_laws.proofs.Messages.{named-in, head-in, news-rest}
+use Rattle.machine_laws.proofs.Messages.{head-in, news-rest}
 use Rattle.machine_laws.proofs.Theorems.{newest-exists, newest-falls, sent-falls}
 use Rattle.participant.specs.declared.Participant.{Participant}
 use Rattle.participant.specs.declared.Stage.{Stage}

@@ -3,9 +3,9 @@ use mathlib.Core.Path.{ap, _∙_}
 use mathlib.Core.List.{List}
 use borrow.Author.Needs.{needs}
 use Rattle.book.specs.declared.Count.{Count}
+use Rattle.matrix.proofs.Sparse.{one-value}
 use Rattle.initiator.specs.Begin.{idle}
 use Rattle.initiator.specs.Calls.{noInitiator}
-use Rattle.initiator.proofs.Entries.{one-value}
 use Rattle.initiator.proofs.no_initiator.Statement.{statement}
 use Rattle.initiator.proofs.no_initiator.Tie as tie
 

@@ -1,7 +1,7 @@
 -- `restart` meets its contract.
 use borrow.Author.Needs.{needs}
+use Rattle.matrix.proofs.Sparse.{one-value}
 use Rattle.initiator.specs.Begin.{restart}
-use Rattle.initiator.proofs.Entries.{one-value}
 use Rattle.initiator.proofs.restart.Statement.{statement}
 use Rattle.initiator.proofs.restart.Tie as tie
 

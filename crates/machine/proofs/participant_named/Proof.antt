@@ -5,7 +5,7 @@ use borrow.Author.Needs.{needs}
 use borrow.Author.Tests.{not-true, not-false}
 use lib.Dec.{eqb}
 use Rattle.message.specs.Formed.{isNamed}
-use Rattle.machine.proofs.Tests.{and-no, and-yes}
+use Rattle.message.proofs.Tests.{and-first, and-rest}
 use Rattle.machine.proofs.participant_named.Statement.{statement}
 use Rattle.machine.proofs.participant_named.Tie as tie
 
@@ -16,7 +16,7 @@ returns : tie.Need-returns
 returns c =
     let a = c .before .before .args in
     let told = c .before .is-named in
-    sym (and-no (isNamed (a .n) (a .me .0)) (isNamed (a .n) (a .initiator .0) && not (eqb (a .me .0) (a .initiator .0)))
+    sym (and-first (isNamed (a .n) (a .me .0)) (isNamed (a .n) (a .initiator .0) && not (eqb (a .me .0) (a .initiator .0)))
     (sym (told .ensures) ∙ not-true (told .result) (c .if1 .taken)))
 
 is-named-requires-2 : tie.Need-is-named-requires-2
@@ -27,9 +27,9 @@ returns-2 c =
     let a = c .before .before .before .before .args in
     let told = c .before .before .before .is-named in
     let second = c .before .is-named2 in
-    sym (and-yes (isNamed (a .n) (a .me .0)) (isNamed (a .n) (a .initiator .0) && not (eqb (a .me .0) (a .initiator .0)))
+    sym (and-rest (isNamed (a .n) (a .me .0)) (isNamed (a .n) (a .initiator .0) && not (eqb (a .me .0) (a .initiator .0)))
     (sym (told .ensures) ∙ not-false (told .result) (c .before .before .if1 .left))
-    ∙ and-no (isNamed (a .n) (a .initiator .0)) (not (eqb (a .me .0) (a .initiator .0)))
+    ∙ and-first (isNamed (a .n) (a .initiator .0)) (not (eqb (a .me .0) (a .initiator .0)))
     (sym (second .ensures) ∙ not-true (second .result) (c .if2 .taken)))
 
 returns-3 : tie.Need-returns-3
@@ -37,9 +37,9 @@ returns-3 c =
     let a = c .before .before .before .before .before .before .args in
     let told = c .before .before .before .before .before .is-named in
     let second = c .before .before .before .is-named2 in
-    sym (and-yes (isNamed (a .n) (a .me .0)) (isNamed (a .n) (a .initiator .0) && not (eqb (a .me .0) (a .initiator .0)))
+    sym (and-rest (isNamed (a .n) (a .me .0)) (isNamed (a .n) (a .initiator .0) && not (eqb (a .me .0) (a .initiator .0)))
     (sym (told .ensures) ∙ not-false (told .result) (c .before .before .before .before .if1 .left))
-    ∙ and-yes (isNamed (a .n) (a .initiator .0)) (not (eqb (a .me .0) (a .initiator .0)))
+    ∙ and-rest (isNamed (a .n) (a .initiator .0)) (not (eqb (a .me .0) (a .initiator .0)))
     (sym (second .ensures) ∙ not-false (second .result) (c .before .before .if2 .left)))
 
 pub participant-named-spec : {M : Type 1} → statement M

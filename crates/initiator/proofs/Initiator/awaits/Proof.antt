@@ -1,7 +1,7 @@
 -- `awaits` meets its contract.
 use borrow.Author.Needs.{needs}
 use borrow.Author.Tests.{not-true, not-false, eq-eqb, ne-eqb}
-use Rattle.initiator.specs.Matrices.{flag}
+use Rattle.machine.specs.Flags.{flag}
 use Rattle.initiator.specs.Step.{senderOf, awaits}
 use Rattle.initiator.proofs.Initiator.awaits.Statement.{statement}
 use Rattle.initiator.proofs.Initiator.awaits.Tie as tie

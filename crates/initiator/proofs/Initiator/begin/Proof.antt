@@ -5,11 +5,11 @@ use borrow.Author.Needs.{needs}
 use lib.ListN.{length}
 use Rattle.book.specs.Check.{tablesQuestion}
 use Rattle.line_theory.proofs.Accepted.{accepted-few}
+use Rattle.machine.proofs.Answers.{at-first, at-second, at-room, at-end}
 use Rattle.machine.proofs.Calls.{given-of}
 use Rattle.initiator.specs.declared.InitiatorStep.{InitiatorStep}
 use Rattle.initiator.specs.Calls.{beginOn, noInitiator}
-use Rattle.initiator.proofs.Answers.{told-of, at-first, at-second, at-room, at-end}
-use Rattle.initiator.proofs.Calls.{namesQuestion, names-there, begin-on, answer-begun}
+use Rattle.initiator.proofs.Calls.{namesQuestion, names-there, begin-on, told-none, answer-begun}
 use Rattle.initiator.proofs.Initiator.begin.Statement.{statement}
 use Rattle.initiator.proofs.Initiator.begin.Tie as tie
 
@@ -45,8 +45,8 @@ returns c =
     let question = c .before .before .before .question in
     let none = c .before .no-initiator in
     answer-begun (a .shape) (a .sent .now) (a .received .now) (a .me) (a .purpose) (a .out .now) (first at) (c .refused .result) (a .out .now) refl
-    (at-first (tables at) (names at) 0 noInitiator (first at) (a .out .now) (question .result) (c .refused .result) (c .before .before .if1 .taken)
-    (told-of (none .result) noInitiator (question .result) (c .refused .result) (none .ensures) (c .refused .ensures))
+    (at-first (tables at) (names at) 0 noInitiator (first at .state) (first at .outgoing) (a .out .now) (question .result) (c .refused .result .answer) (c .refused .result .state) (c .refused .result .lengths) (c .before .before .if1 .taken)
+    (told-none (none .result) (question .result) (c .refused .result) (none .ensures) (c .refused .ensures))
     (question .ensures))
 
 -- ---- the names
@@ -70,8 +70,8 @@ returns-2 c =
     let question = c .before .before .before .begin-question in
     let none = c .before .no-initiator2 in
     answer-begun (a .shape) (a .sent .now) (a .received .now) (a .me) (a .purpose) (a .out .now) (first at) (c .refused2 .result) (a .out .now) refl
-    (at-second (tables at) (names at) 0 noInitiator (first at) (a .out .now) (question .result) (c .refused2 .result) (c .before .before .if2 .taken)
-    (told-of (none .result) noInitiator (question .result) (c .refused2 .result) (none .ensures) (c .refused2 .ensures))
+    (at-second (tables at) (names at) 0 noInitiator (first at .state) (first at .outgoing) (a .out .now) (question .result) (c .refused2 .result .answer) (c .refused2 .result .state) (c .refused2 .result .lengths) (c .before .before .if2 .taken)
+    (told-none (none .result) (question .result) (c .refused2 .result) (none .ensures) (c .refused2 .ensures))
     (accepted (c .before .before .before .before))
     (question .ensures))
 
@@ -124,13 +124,13 @@ returns-3 c =
     let none = c .before .no-initiator3 in
     answer-begun (a .shape) (a .sent .now) (a .received .now) (a .me) (a .purpose) (a .out .now) next (c .refused3 .result) (sent .last .1 .0)
     (is-first begun)
-    (at-room (tables at) (names at) 0 noInitiator next (a .out .now) (accepted (passed .before .before)) (named passed) refl (sent .result .question)
+    (at-room (tables at) (names at) 0 noInitiator (next .state) (next .outgoing) (a .out .now) (accepted (passed .before .before)) (named passed) refl (sent .result .question)
     (sent .last .1 .0)
     (sent .ensures .0)
     (sent .ensures .1 .1)
-    (c .refused3 .result)
+    (c .refused3 .result .answer) (c .refused3 .result .state) (c .refused3 .result .lengths)
     (c .before .before .if3 .taken)
-    (told-of (none .result) noInitiator (sent .result .question) (c .refused3 .result) (none .ensures) (c .refused3 .ensures)))
+    (told-none (none .result) (sent .result .question) (c .refused3 .result) (none .ensures) (c .refused3 .ensures)))
 
 same-length-2 : tie.Need-same-length-2
 same-length-2 c = search needs
@@ -145,7 +145,7 @@ returns-4 c =
     let sent = c .before .before .before .before .before .before .send in
     answer-begun (a .shape) (a .sent .now) (a .received .now) (a .me) (a .purpose) (a .out .now) next _ (sent .last .1 .0)
     (is-first begun)
-    (at-end (tables at) (names at) 0 noInitiator next (a .out .now) (accepted (passed .before .before)) (named passed) refl (sent .result .question)
+    (at-end (tables at) (names at) 0 noInitiator (next .state) (next .outgoing) (a .out .now) (accepted (passed .before .before)) (named passed) refl (sent .result .question)
     (sent .last .1 .0)
     (sent .ensures .0)
     (sent .ensures .1 .1)

@@ -1,7 +1,7 @@
 -- `compare` meets its contract.
 use mathlib.Core.Path.{sym, ap, _∙_}
 use borrow.Author.Needs.{needs}
-use Rattle.initiator.specs.Matrices.{someone}
+use Rattle.machine.specs.Flags.{someone}
 use Rattle.initiator.specs.Step.{compare}
 use Rattle.initiator.proofs.Initiator.compare.Statement.{statement}
 use Rattle.initiator.proofs.Initiator.compare.Tie as tie

@@ -5,7 +5,7 @@ use Prim.Native.Nat.{_-_, _≤_}
 use borrow.Author.Needs.{needs}
 use borrow.Author.Tests.{ltb-true, ltb-false, not-true, not-false}
 use Rattle.machine.specs.Own.{Own, ownOf}
-use Rattle.initiator.proofs.Fits.{fits-size, fits-none-below, fits-none-above, fits-no-entries, fits-no-stage, fits-wait}
+use Rattle.initiator.proofs.Fitting.{fits-size, fits-none-below, fits-none-above, fits-no-entries, fits-no-stage, fits-wait}
 use Rattle.initiator.proofs.Initiator.fits.Statement.{statement}
 use Rattle.initiator.proofs.Initiator.fits.Tie as tie
 

@@ -7,9 +7,9 @@ use borrow.Author.Needs.{needs}
 use Rattle.matrix.specs.Matrix.{column}
 use Rattle.matrix.specs.Entries.{same}
 use Rattle.machine.specs.Named.{isParticipant}
+use Rattle.machine.proofs.Flags.{Flagged, flagged-none, flagged-more, flagged-all}
 use Rattle.initiator.specs.declared.Initiator.{Initiator}
 use Rattle.initiator.specs.Step.{polled}
-use Rattle.initiator.proofs.Flags.{Flagged, flagged-none, flagged-more, flagged-all}
 use Rattle.initiator.proofs.Initiator.polled.Statement.{statement}
 use Rattle.initiator.proofs.Initiator.polled.Tie as tie
 

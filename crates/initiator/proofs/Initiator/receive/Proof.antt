@@ -10,12 +10,12 @@ use Rattle.book.specs.Check.{tablesQuestion}
 use Rattle.line_theory.proofs.Accepted.{accepted-size, accepted-few}
 use Rattle.message.specs.Formed.{messageFormed}
 use Rattle.machine.specs.Own.{Own}
+use Rattle.machine.proofs.Answers.{at-first, at-second, at-third, at-room, at-end}
 use Rattle.machine.proofs.Calls.{given-of}
 use Rattle.initiator.specs.declared.InitiatorStep.{InitiatorStep}
 use Rattle.initiator.specs.Fits.{fits}
 use Rattle.initiator.specs.Calls.{ownOfState, stateQuestion, messageQuestion, stepOn}
-use Rattle.initiator.proofs.Answers.{at-first, at-second, at-third, at-room, at-end}
-use Rattle.initiator.proofs.Fits.{fitting-size, fitting-rounds}
+use Rattle.initiator.proofs.Fitting.{fitting-size, fitting-rounds}
 use Rattle.initiator.proofs.Calls.{sender-there, state-named, state-fits, not-formed, is-formed, step-on, answer-received}
 use Rattle.initiator.proofs.Initiator.receive.Statement.{statement}
 use Rattle.initiator.proofs.Initiator.receive.Tie as tie
@@ -54,7 +54,7 @@ returns c =
     let a = at .args in
     let question = c .before .before .question in
     answer-received (a .shape) (a .sent .now) (a .received .now) (a .self) (a .s .now) (a .out .now) (step at) (c .refused .result) (a .out .now) refl
-    (at-first (tables at) (of-state at) (of-message at) (a .self) (step at) (a .out .now) (question .result) (c .refused .result) (c .before .if1 .taken)
+    (at-first (tables at) (of-state at) (of-message at) (a .self) (step at .state) (step at .outgoing) (a .out .now) (question .result) (c .refused .result .answer) (c .refused .result .state) (c .refused .result .lengths) (c .before .if1 .taken)
     (c .refused .ensures)
     (question .ensures))
 
@@ -75,7 +75,7 @@ returns-2 c =
     let a = at .args in
     let question = c .before .before .state-question in
     answer-received (a .shape) (a .sent .now) (a .received .now) (a .self) (a .s .now) (a .out .now) (step at) (c .refused2 .result) (a .out .now) refl
-    (at-second (tables at) (of-state at) (of-message at) (a .self) (step at) (a .out .now) (question .result) (c .refused2 .result) (c .before .if2 .taken)
+    (at-second (tables at) (of-state at) (of-message at) (a .self) (step at .state) (step at .outgoing) (a .out .now) (question .result) (c .refused2 .result .answer) (c .refused2 .result .state) (c .refused2 .result .lengths) (c .before .if2 .taken)
     (c .refused2 .ensures)
     (accepted (c .before .before .before))
     (question .ensures))
@@ -103,7 +103,7 @@ returns-3 c =
     let a = at .args in
     let read = c .before .before .before .read-message in
     answer-received (a .shape) (a .sent .now) (a .received .now) (a .self) (a .s .now) (a .out .now) (step at) (c .refused3 .result) (a .out .now) refl
-    (at-third (tables at) (of-state at) (of-message at) (a .self) (step at) (a .out .now) 14 (c .refused3 .result) (λ z. absurd (omega arith))
+    (at-third (tables at) (of-state at) (of-message at) (a .self) (step at .state) (step at .outgoing) (a .out .now) 14 (c .refused3 .result .answer) (c .refused3 .result .state) (c .refused3 .result .lengths) (λ z. absurd (omega arith))
     (c .refused3 .ensures)
     (accepted (passed .before .before))
     (state-passes passed)
@@ -152,7 +152,7 @@ returns-4 c =
     let a = at .args in
     let question = c .before .before .awaited-question in
     answer-received (a .shape) (a .sent .now) (a .received .now) (a .self) (a .s .now) (a .out .now) (step at) (c .refused4 .result) (a .out .now) refl
-    (at-third (tables at) (of-state at) (of-message at) (a .self) (step at) (a .out .now) (question .result) (c .refused4 .result) (c .before .if4 .taken)
+    (at-third (tables at) (of-state at) (of-message at) (a .self) (step at .state) (step at .outgoing) (a .out .now) (question .result) (c .refused4 .result .answer) (c .refused4 .result .state) (c .refused4 .result .lengths) (c .before .if4 .taken)
     (c .refused4 .ensures)
     (accepted (passed .before .before))
     (state-passes passed)
@@ -210,13 +210,13 @@ returns-5 c =
     let sent = c .before .before .before .before .before .send in
     answer-received (a .shape) (a .sent .now) (a .received .now) (a .self) (a .s .now) (a .out .now) next (c .refused5 .result) (sent .last .1 .0)
     (is-step stepped)
-    (at-room (tables at) (of-state at) (of-message at) (a .self) next (a .out .now) (accepted (passed .before .before)) (state-passes passed)
+    (at-room (tables at) (of-state at) (of-message at) (a .self) (next .state) (next .outgoing) (a .out .now) (accepted (passed .before .before)) (state-passes passed)
     (sym (asked (awaited .before)) ∙ awaited .if4 .left)
     (sent .result .question)
     (sent .last .1 .0)
     (sent .ensures .0)
     (sent .ensures .1 .1)
-    (c .refused5 .result)
+    (c .refused5 .result .answer) (c .refused5 .result .state) (c .refused5 .result .lengths)
     (c .before .if5 .taken)
     (c .refused5 .ensures))
 
@@ -234,7 +234,7 @@ returns-6 c =
     let sent = c .before .before .before .before .before .before .send in
     answer-received (a .shape) (a .sent .now) (a .received .now) (a .self) (a .s .now) (a .out .now) next _ (sent .last .1 .0)
     (is-step stepped)
-    (at-end (tables at) (of-state at) (of-message at) (a .self) next (a .out .now) (accepted (passed .before .before)) (state-passes passed)
+    (at-end (tables at) (of-state at) (of-message at) (a .self) (next .state) (next .outgoing) (a .out .now) (accepted (passed .before .before)) (state-passes passed)
     (sym (asked (awaited .before)) ∙ awaited .if4 .left)
     (sent .result .question)
     (sent .last .1 .0)

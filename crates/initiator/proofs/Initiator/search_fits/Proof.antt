@@ -6,7 +6,7 @@ use borrow.Author.Tests.{not-true, not-false}
 use Rattle.matrix.specs.Matrix.{row}
 use Rattle.matrix.specs.Entries.{same}
 use Rattle.machine.specs.Own.{Own, ownOf, sentRow}
-use Rattle.initiator.proofs.Fits.{search-row, search-newest}
+use Rattle.initiator.proofs.Fitting.{search-row, search-newest}
 use Rattle.initiator.proofs.Initiator.search_fits.Statement.{statement}
 use Rattle.initiator.proofs.Initiator.search_fits.Tie as tie
 

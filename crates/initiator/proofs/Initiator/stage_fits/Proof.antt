@@ -6,7 +6,7 @@ use Prim.Native.Nat.{_-_}
 use borrow.Author.Needs.{needs}
 use lib.Dec.{eqb}
 use Rattle.machine.specs.Own.{Own, ownOf}
-use Rattle.initiator.proofs.Fits.{stage-restarted, stage-searched}
+use Rattle.initiator.proofs.Fitting.{stage-restarted, stage-searched}
 use Rattle.initiator.proofs.Initiator.stage_fits.Statement.{statement}
 use Rattle.initiator.proofs.Initiator.stage_fits.Tie as tie
 

@@ -9,11 +9,11 @@ use lib.ListN.{length}
 use Rattle.book.specs.declared.Shape.{Shape}
 use Rattle.line_theory.proofs.Accepted.{accepted-few}
 use Rattle.message.specs.Formed.{isNamed, isPurpose}
+use Rattle.message.proofs.Heads.{named-in}
 use Rattle.machine.specs.Own.{ownOf}
 use Rattle.machine.proofs.Answers.{first-no, second-no, third-no, all-yes}
 use Rattle.machine.proofs.Calls.{given-of}
 use Rattle.initiator.specs.Fits.{fits}
-use Rattle.initiator.proofs.Calls.{named-there}
 use Rattle.initiator.proofs.Initiator.state_question.Statement.{statement}
 use Rattle.initiator.proofs.Initiator.state_question.Tie as tie
 
@@ -68,7 +68,7 @@ fits-requires c κs =
     let rows = c .rows-of in
     given-of (a .shape) (a .sent .now) (a .received .now) (rows .result) (a .self .me .0) (counts-long at) (at .pre) (rows .ensures .0)
     (rows .ensures .1)
-    (named-there (a .shape .n) (a .self .me .0) (is-named (c .before .before .before)))
+    (named-in (a .shape .n) (a .self .me .0) (is-named (c .before .before .before)))
 
 -- the rows are the shape's
 is-fitting : (c : tie.After-fits2) → c .fits2 .result ≡ fitting (c .before .before .before .before .before .before .before .before .before)

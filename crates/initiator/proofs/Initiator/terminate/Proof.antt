@@ -1,7 +1,7 @@
 -- `terminate` meets its contract.
 use borrow.Author.Needs.{needs}
+use Rattle.matrix.proofs.Sparse.{one-value}
 use Rattle.initiator.specs.Step.{terminate}
-use Rattle.initiator.proofs.Entries.{one-value}
 use Rattle.initiator.proofs.Initiator.terminate.Statement.{statement}
 use Rattle.initiator.proofs.Initiator.terminate.Tie as tie
 

@@ -4,9 +4,9 @@ use mathlib.Core.Logic.{⊎-elim}
 use mathlib.Core.Bool.{true, _||_}
 use borrow.Author.Needs.{needs}
 use borrow.Author.Tests.{not-true, not-false}
-use Rattle.initiator.specs.Matrices.{someone}
+use Rattle.message.proofs.Tests.{or-first, or-second}
+use Rattle.machine.specs.Flags.{someone}
 use Rattle.initiator.specs.Fits.{waitFits}
-use Rattle.initiator.proofs.Tests.{or-first, or-second}
 use Rattle.initiator.proofs.Initiator.wait_fits.Statement.{statement}
 use Rattle.initiator.proofs.Initiator.wait_fits.Tie as tie
 

@@ -3,7 +3,7 @@ use mathlib.Core.Path.{sym, _∙_}
 use Prim.Native.Nat.{_-_}
 use borrow.Author.Needs.{needs}
 use Rattle.machine.specs.Own.{ownOf}
-use Rattle.participant.proofs.Fits.{ended-oldest, ended-searched}
+use Rattle.participant.proofs.Fitting.{ended-oldest, ended-searched}
 use Rattle.participant.proofs.Participant.end_fits.Statement.{statement}
 use Rattle.participant.proofs.Participant.end_fits.Tie as tie
 

@@ -8,7 +8,7 @@ use borrow.Author.Tests.{not-true, not-false}
 use Rattle.book.specs.Check.{tablesQuestion}
 use Rattle.line_theory.proofs.Accepted.{accepted-size}
 use Rattle.machine.specs.Named.{participantNamed}
-use Rattle.participant.proofs.Fits.{named-there}
+use Rattle.participant.proofs.Fitting.{named-there}
 use Rattle.participant.proofs.Calls.{first-tables, first-unnamed, first-no-purpose, first-begun}
 use Rattle.participant.proofs.Participant.first.Statement.{statement}
 use Rattle.participant.proofs.Participant.first.Tie as tie
@@ -41,7 +41,7 @@ within : (c : tie.Else2) → let a = c .before .before .before .before .before .
     (1 ≤ a .me .0) × (a .me .0 - 1 < 16)
 within c =
     let a = c .before .before .before .before .before .before .before .args in
-    let there = named-there (a .shape .n) (a .me .0) (a .initiator .0) (named c) in
+    let there = named-there (a .shape .n) (a .me .0) (a .initiator .0) (named c) .0 in
     let size = accepted-size (a .shape) (a .sent .now) (a .received .now) (accepted (c .before .before)) in
     (there .0, omega (arith, there, size))
 

@@ -5,7 +5,7 @@ use Prim.Native.Nat.{_-_, _≤_}
 use borrow.Author.Needs.{needs}
 use borrow.Author.Tests.{ltb-true, ltb-false, not-true, not-false}
 use Rattle.machine.specs.Own.{Own, ownOf}
-use Rattle.participant.proofs.Fits.{fits-size, fits-none-below, fits-none-above, fits-row, fits-column, fits-stage}
+use Rattle.participant.proofs.Fitting.{fits-size, fits-none-below, fits-none-above, fits-row, fits-column, fits-stage}
 use Rattle.participant.proofs.Participant.fits.Statement.{statement}
 use Rattle.participant.proofs.Participant.fits.Tie as tie
 

@@ -1,15 +1,41 @@
 -- `receive` meets its contract: at each return the tests that led there say which question fails first.
-use mathlib.Core.Path.{_≡_, sym, _∙_}
+use mathlib.Core.Path.{_≡_, refl, sym, _∙_}
+use Prim.Native.Nat.{ℕ}
 use native.Mathlib.Omega.{arith}
 use borrow.Author.Needs.{needs}
 use lib.ListN.{length}
 use Rattle.book.specs.Check.{tablesQuestion}
 use Rattle.line_theory.proofs.Accepted.{accepted-size, accepted-few}
+use Rattle.machine.specs.Own.{Own}
+use Rattle.machine.proofs.Answers.{at-first, at-second, at-third, at-room, at-end}
 use Rattle.machine.proofs.Calls.{given-of}
+use Rattle.participant.specs.declared.ParticipantStep.{ParticipantStep}
 use Rattle.participant.specs.Calls.{ownOfState, stateQuestion, messageQuestion, stepOn}
-use Rattle.participant.proofs.Calls.{state-named, step-on, message-asked, receive-tables, receive-state, receive-message, receive-full, receive-sent}
+use Rattle.participant.proofs.Calls.{state-named, step-on, message-asked, answer-received}
 use Rattle.participant.proofs.Participant.receive.Statement.{statement}
 use Rattle.participant.proofs.Participant.receive.Tie as tie
+
+-- ---- the questions, and the step
+
+abbrev own : tie.Start → Own
+own c = let a = c .args in ownOfState (a .shape) (a .sent .now) (a .received .now) (a .self)
+
+abbrev tables : tie.Start → ℕ
+tables c = let a = c .args in tablesQuestion (a .shape) (a .sent .now) (a .received .now)
+
+abbrev of-state : tie.Start → ℕ
+of-state c = let a = c .args in stateQuestion (a .shape .n) (own c) (a .self)
+
+abbrev of-message : tie.Start → ℕ
+of-message c = let a = c .args in messageQuestion (a .shape .n) (a .self) (a .s .now)
+
+abbrev step : tie.Start → ParticipantStep
+step c = let a = c .args in stepOn (a .shape) (a .sent .now) (a .received .now) (a .self) (a .s .now)
+
+counts-long : (c : tie.Start) → length (c .args .shape .counts) ≡ 16
+counts-long c = search needs
+
+-- ---- the tables
 
 question-requires : tie.Need-question-requires
 question-requires c κs = search needs
@@ -19,21 +45,20 @@ refused-requires c κs = search needs
 
 returns : tie.Need-returns
 returns c =
-    let a = c .before .before .before .before .before .before .before .args in
+    let at = c .before .before .before .before .before .before .before in
+    let a = at .args in
     let question = c .before .before .question in
-    receive-tables (a .shape) (a .sent .now) (a .received .now) (a .self) (a .s .now) (a .out .now) (question .result) (c .refused .result)
-    (question .ensures)
-    (c .before .if1 .taken)
+    let r = c .refused .result in
+    answer-received (a .shape) (a .sent .now) (a .received .now) (a .self) (a .s .now) (a .out .now) (step at) r (a .out .now) refl
+    (at-first (tables at) (of-state at) (of-message at) (a .self) (step at .state) (step at .outgoing) (a .out .now) (question .result)
+    (r .answer) (r .state) (r .lengths) (c .before .if1 .taken)
     (c .refused .ensures)
+    (question .ensures))
 
--- ---- the tables have passed
-
-counts-long : (c : tie.Start) → length (c .args .shape .counts) ≡ 16
-counts-long c = search needs
-
-accepted : (c : tie.Else1) → let a = c .before .before .before .before .before .before .args in
-    tablesQuestion (a .shape) (a .sent .now) (a .received .now) ≡ 0
+accepted : (c : tie.Else1) → tables (c .before .before .before .before .before .before) ≡ 0
 accepted c = sym (c .before .question .ensures) ∙ c .if1 .left
+
+-- ---- the state
 
 state-question-requires : tie.Need-state-question-requires
 state-question-requires c κs = search needs
@@ -43,20 +68,21 @@ refused-requires-2 c κs = search needs
 
 returns-2 : tie.Need-returns-2
 returns-2 c =
-    let a = c .before .before .before .before .before .before .before .before .before .args in
+    let at = c .before .before .before .before .before .before .before .before .before in
+    let a = at .args in
     let question = c .before .before .state-question in
-    receive-state (a .shape) (a .sent .now) (a .received .now) (a .self) (a .s .now) (a .out .now) (accepted (c .before .before .before))
-    (question .result)
-    (c .refused2 .result)
-    (question .ensures)
-    (c .before .if2 .taken)
+    let r = c .refused2 .result in
+    answer-received (a .shape) (a .sent .now) (a .received .now) (a .self) (a .s .now) (a .out .now) (step at) r (a .out .now) refl
+    (at-second (tables at) (of-state at) (of-message at) (a .self) (step at .state) (step at .outgoing) (a .out .now) (question .result)
+    (r .answer) (r .state) (r .lengths) (c .before .if2 .taken)
     (c .refused2 .ensures)
+    (accepted (c .before .before .before))
+    (question .ensures))
 
--- ---- the state has passed
-
-state-passes : (c : tie.Else2) → let a = c .before .before .before .before .before .before .before .before .args in
-    stateQuestion (a .shape .n) (ownOfState (a .shape) (a .sent .now) (a .received .now) (a .self)) (a .self) ≡ 0
+state-passes : (c : tie.Else2) → of-state (c .before .before .before .before .before .before .before .before) ≡ 0
 state-passes c = sym (c .before .state-question .ensures) ∙ c .if2 .left
+
+-- ---- the message
 
 read-message-requires : tie.Need-read-message-requires
 read-message-requires c κs =
@@ -66,8 +92,8 @@ read-message-requires c κs =
 message-question-requires : tie.Need-message-question-requires
 message-question-requires c κs = search needs
 
-message-is : (c : tie.After-message-question) → let a = c .before .before .before .before .before .before .before .before .before .before .before .before .args in
-    c .message-question .result ≡ messageQuestion (a .shape .n) (a .self) (a .s .now)
+message-is : (c : tie.After-message-question) →
+    c .message-question .result ≡ of-message (c .before .before .before .before .before .before .before .before .before .before .before .before)
 message-is c =
     let a = c .before .before .before .before .before .before .before .before .before .before .before .before .args in
     let read = c .before .read-message in
@@ -78,21 +104,23 @@ refused-requires-3 c κs = search needs
 
 returns-3 : tie.Need-returns-3
 returns-3 c =
-    let a = c .before .before .before .before .before .before .before .before .before .before .before .before .before .before .args in
+    let at = c .before .before .before .before .before .before .before .before .before .before .before .before .before .before in
+    let a = at .args in
     let passed = c .before .before .before .before .before .before in
-    receive-message (a .shape) (a .sent .now) (a .received .now) (a .self) (a .s .now) (a .out .now) (accepted (passed .before .before))
-    (state-passes passed)
+    let r = c .refused3 .result in
+    answer-received (a .shape) (a .sent .now) (a .received .now) (a .self) (a .s .now) (a .out .now) (step at) r (a .out .now) refl
+    (at-third (tables at) (of-state at) (of-message at) (a .self) (step at .state) (step at .outgoing) (a .out .now)
     (c .before .before .message-question .result)
-    (c .refused3 .result)
-    (message-is (c .before .before))
-    (c .before .if3 .taken)
+    (r .answer) (r .state) (r .lengths) (c .before .if3 .taken)
     (c .refused3 .ensures)
+    (accepted (passed .before .before))
+    (state-passes passed)
+    (message-is (c .before .before)))
 
--- ---- the message has passed
-
-message-passes : (c : tie.Else3) → let a = c .before .before .before .before .before .before .before .before .before .before .before .before .before .args in
-    messageQuestion (a .shape .n) (a .self) (a .s .now) ≡ 0
+message-passes : (c : tie.Else3) → of-message (c .before .before .before .before .before .before .before .before .before .before .before .before .before) ≡ 0
 message-passes c = sym (message-is (c .before)) ∙ c .if3 .left
+
+-- ---- the room
 
 rows-of-requires : tie.Need-rows-of-requires
 rows-of-requires c κs =
@@ -108,15 +136,15 @@ step-requires c κs =
     let passed = c .before .before .before .before .before .before .before in
     let none = accepted (passed .before .before) in
     let rows = c .before .rows-of in
-    let named = state-named (a .shape .n) (ownOfState (a .shape) (a .sent .now) (a .received .now) (a .self)) (a .self) (state-passes passed) in
+    let named = state-named (a .shape .n) (own at) (a .self) (state-passes passed) in
     let size = accepted-size (a .shape) (a .sent .now) (a .received .now) none in (
       given-of (a .shape) (a .sent .now) (a .received .now) (rows .result) (a .self .me .0) (counts-long at) none (rows .ensures .0) (rows .ensures .1)
           (named .0),
       (named .1 .0, omega (arith, named .1, size)),
     )
 
-step-is : (c : tie.After-step) → let a = c .before .before .before .before .before .before .before .before .before .before .before .before .before .before .before .before .args in
-    c .step .result ≡ stepOn (a .shape) (a .sent .now) (a .received .now) (a .self) (a .s .now)
+step-is : (c : tie.After-step) →
+    c .step .result ≡ step (c .before .before .before .before .before .before .before .before .before .before .before .before .before .before .before .before)
 step-is c =
     let a = c .before .before .before .before .before .before .before .before .before .before .before .before .before .before .before .before .args in
     let rows = c .before .before .rows-of in
@@ -139,21 +167,23 @@ returns-4 : tie.Need-returns-4
 returns-4 c =
     let sent = c .before .before .before .before .before .send in
     let stepped = c .before .before .before .before .before .before .before .before in
-    let a = stepped .before .before .before .before .before .before .before .before .before .before .before .before .before .before .before .before .args in
+    let at = stepped .before .before .before .before .before .before .before .before .before .before .before .before .before .before .before .before in
+    let a = at .args in
     let read = stepped .before .before .before in
     let passed = read .before .before .before .before .before in
-    receive-full (a .shape) (a .sent .now) (a .received .now) (a .self) (a .s .now) (a .out .now) (accepted (passed .before .before))
+    let next = stepped .step .result in
+    let r = c .refused4 .result in
+    answer-received (a .shape) (a .sent .now) (a .received .now) (a .self) (a .s .now) (a .out .now) next r (sent .last .1 .0)
+    (step-is stepped)
+    (at-room (tables at) (of-state at) (of-message at) (a .self) (next .state) (next .outgoing) (a .out .now) (accepted (passed .before .before))
     (state-passes passed)
     (message-passes read)
-    (stepped .step .result)
-    (step-is stepped)
     (sent .result .question)
     (sent .last .1 .0)
     (sent .ensures .0)
     (sent .ensures .1 .1)
-    (c .refused4 .result)
-    (c .before .if4 .taken)
-    (c .refused4 .ensures)
+    (r .answer) (r .state) (r .lengths) (c .before .if4 .taken)
+    (c .refused4 .ensures))
 
 same-length-2 : tie.Need-same-length-2
 same-length-2 c = search needs
@@ -162,21 +192,23 @@ returns-5 : tie.Need-returns-5
 returns-5 c =
     let sent = c .before .before .before .before .before .before .send in
     let stepped = c .before .before .before .before .before .before .before .before .before in
-    let a = stepped .before .before .before .before .before .before .before .before .before .before .before .before .before .before .before .before .args in
+    let at = stepped .before .before .before .before .before .before .before .before .before .before .before .before .before .before .before .before in
+    let a = at .args in
     let read = stepped .before .before .before in
     let passed = read .before .before .before .before .before in
-    receive-sent (a .shape) (a .sent .now) (a .received .now) (a .self) (a .s .now) (a .out .now) (accepted (passed .before .before))
+    let next = stepped .step .result in
+    answer-received (a .shape) (a .sent .now) (a .received .now) (a .self) (a .s .now) (a .out .now) next _ (sent .last .1 .0)
+    (step-is stepped)
+    (at-end (tables at) (of-state at) (of-message at) (a .self) (next .state) (next .outgoing) (a .out .now) (accepted (passed .before .before))
     (state-passes passed)
     (message-passes read)
-    (stepped .step .result)
-    (step-is stepped)
     (sent .result .question)
     (sent .last .1 .0)
     (sent .ensures .0)
     (sent .ensures .1 .1)
     (sent .result .lengths)
     (c .before .before .if4 .left)
-    (sent .ensures .1 .0)
+    (sent .ensures .1 .0))
 
 pub receive-spec : {M : Type 1} → statement M
 receive-spec =

@@ -7,7 +7,7 @@ use borrow.Author.Tests.{not-true, not-false}
 use Rattle.book.specs.declared.Count.{Count}
 use Rattle.matrix.specs.Entries.{same}
 use Rattle.machine.specs.Own.{Own, ownOf, sentRow}
-use Rattle.participant.proofs.Fits.{search-row, search-newest}
+use Rattle.participant.proofs.Fitting.{search-row, search-newest}
 use Rattle.participant.proofs.Participant.search_fits.Statement.{statement}
 use Rattle.participant.proofs.Participant.search_fits.Tie as tie
 

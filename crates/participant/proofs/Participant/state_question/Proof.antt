@@ -2,6 +2,7 @@
 use mathlib.Core.Path.{_≡_, sym, subst, _∙_}
 use mathlib.Core.Bool.{Bool, true}
 use Prim.Native.Nat.{_-_}
+use native.Mathlib.Omega.{arith}
 use borrow.Author.Needs.{needs}
 use borrow.Author.Tests.{not-true, not-false}
 use lib.ListN.{length}
@@ -10,9 +11,10 @@ use Rattle.line_theory.proofs.Accepted.{accepted-few}
 use Rattle.message.specs.Formed.{isPurpose}
 use Rattle.machine.specs.Own.{ownOf}
 use Rattle.machine.specs.Named.{participantNamed}
+use Rattle.machine.proofs.Answers.{first-no, second-no, third-no, all-yes}
 use Rattle.machine.proofs.Calls.{given-of}
 use Rattle.participant.specs.Fits.{fits}
-use Rattle.participant.proofs.Fits.{named-there, question-10, question-11, question-13, question-none}
+use Rattle.participant.proofs.Fitting.{named-there}
 use Rattle.participant.proofs.Participant.state_question.Statement.{statement}
 use Rattle.participant.proofs.Participant.state_question.Tie as tie
 
@@ -37,7 +39,7 @@ returns : tie.Need-returns
 returns c =
     let at = c .before .before .before .before .before .before in
     let told = c .before .participant-named in
-    question-10 (named at) (purposed at) (fitting at) (sym (told .ensures) ∙ not-true (told .result) (c .if1 .taken))
+    first-no 10 11 13 (named at) (purposed at) (fitting at) (omega arith) (sym (told .ensures) ∙ not-true (told .result) (c .if1 .taken))
 
 is-purpose-requires : tie.Need-is-purpose-requires
 is-purpose-requires c κs = search needs
@@ -49,7 +51,7 @@ returns-2 : tie.Need-returns-2
 returns-2 c =
     let at = c .before .before .before .before .before .before .before .before in
     let told = c .before .is-purpose in
-    question-11 (named at) (purposed at) (fitting at) (is-named (c .before .before))
+    second-no 10 11 13 (named at) (purposed at) (fitting at) (is-named (c .before .before)) (omega arith)
     (sym (told .ensures) ∙ not-true (told .result) (c .if2 .taken))
 
 is-purposed : (c : tie.Else2) → purposed (c .before .before .before .before .before .before .before .before) ≡ true
@@ -68,7 +70,7 @@ fits-requires c κs =
     let rows = c .rows-of in
     given-of (a .shape) (a .sent .now) (a .received .now) (rows .result) (a .self .me .0) (counts-long at) (at .pre)
     (rows .ensures .0) (rows .ensures .1)
-    (named-there (a .shape .n) (a .self .me .0) (a .self .initiator .0) (is-named (c .before .before .before)))
+    (named-there (a .shape .n) (a .self .me .0) (a .self .initiator .0) (is-named (c .before .before .before)) .0)
 
 -- the rows are the shape's
 is-fitting : (c : tie.After-fits2) → c .fits2 .result ≡ fitting (c .before .before .before .before .before .before .before .before .before .before)
@@ -82,14 +84,14 @@ returns-3 : tie.Need-returns-3
 returns-3 c =
     let asked = c .before .before .before in
     let at = asked .before .before .before .before .before .before .before .before in
-    question-13 (named at) (purposed at) (fitting at) (is-named (asked .before .before)) (is-purposed asked)
+    third-no 10 11 13 (named at) (purposed at) (fitting at) (is-named (asked .before .before)) (is-purposed asked)
     (sym (is-fitting (c .before)) ∙ not-true (c .before .fits2 .result) (c .if3 .taken))
 
 returns-4 : tie.Need-returns-4
 returns-4 c =
     let asked = c .before .before .before in
     let at = asked .before .before .before .before .before .before .before .before in
-    question-none (named at) (purposed at) (fitting at) (is-named (asked .before .before)) (is-purposed asked)
+    all-yes 10 11 13 (named at) (purposed at) (fitting at) (is-named (asked .before .before)) (is-purposed asked)
     (sym (is-fitting (c .before)) ∙ not-false (c .before .fits2 .result) (c .if3 .left))
 
 pub state-question-spec : {M : Type 1} → statement M

@@ -7,7 +7,7 @@ use borrow.Author.Tests.{not-true, not-false}
 use Rattle.book.specs.declared.Count.{Count}
 use Rattle.matrix.specs.Matrix.{notKnownRow}
 use Rattle.matrix.specs.Entries.{same}
-use Rattle.participant.proofs.Fits.{unknown-elsewhere, unknown-row, unknown-column}
+use Rattle.participant.proofs.Fitting.{unknown-elsewhere, unknown-row, unknown-column}
 use Rattle.participant.proofs.Participant.unknown_on.Statement.{statement}
 use Rattle.participant.proofs.Participant.unknown_on.Tie as tie
 

@@ -1,0 +1,262 @@
+// Document 01, "A search", and K 5.2, steps 4 to 9: the initiator takes a report in.
+use crate::Initiator;
+use crate::InitiatorStep;
+use book::Checkpoint;
+use book::Count;
+use book::Counter;
+use book::Process;
+use book::TableRows;
+use mail::Outgoing;
+use message::Head;
+use message::Message;
+ghost use mathlib.Core.Path.{_≡_};
+ghost use mathlib.Core.Bool.{_&&_, not};
+ghost use Prim.Native.Nat.{_-_, _≤_, _<_};
+ghost use Rattle.matrix.specs.Matrix.{column};
+ghost use Rattle.matrix.specs.Entries.{same};
+ghost use Rattle.machine.specs.Own.{ownOf};
+ghost use Rattle.machine.specs.Named.{isParticipant, countLimit};
+ghost use Rattle.machine.specs.Given.{Given};
+ghost use Rattle.initiator.specs.Step.{wholeIfFirst, awaits, takeReport, stepBack, polled, poll, terminate, compare, silent, step};
+
+impl Initiator {
+    // Has a first report all pairs?
+    fn whole_if_first(self, message: Message) -> bool
+        requires { ⌜ (1 ≤ message .head .sender .0) × (message .head .sender .0 ≤ 16) ⌝ }
+        requires { ⌜ 1 ≤ self .n ⌝ }
+        ensures { λ r. ⌜ r ≡ wholeIfFirst self message ⌝ }
+    {
+        let head = message.head;
+        let sender = head.sender;
+        let news = message.news;
+        let matrix = self.matrix;
+        let row = matrix::row(matrix, sender);
+        let unknown = matrix::not_known_row(self.n, sender);
+        if !matrix::same(row, unknown) {
+            return true;
+        }
+        message::pair_count(news) == self.n - 1
+    }
+
+    // Is the message awaited here (question 15)?
+    pub(crate) fn awaits(self, message: Message) -> bool
+        requires { ⌜ (1 ≤ message .head .sender .0) × (message .head .sender .0 ≤ 16) ⌝ }
+        requires { ⌜ 1 ≤ self .n ⌝ }
+        ensures { λ r. ⌜ r ≡ awaits self message ⌝ }
+    {
+        let head = message.head;
+        let sender = head.sender;
+        let awaited = self.awaited;
+        let place = sender.0 - 1;
+        if self.ended {
+            return false;
+        }
+        if !awaited[place] {
+            return false;
+        }
+        if head.purpose != self.purpose {
+            return false;
+        }
+        if head.kind != 2 {
+            return false;
+        }
+        self.whole_if_first(message)
+    }
+
+    // A report comes in.
+    fn take_report(self, message: Message) -> Initiator
+        requires { ⌜ (1 ≤ message .head .sender .0) × (message .head .sender .0 ≤ 16) ⌝ }
+        ensures { λ r. ⌜ r ≡ takeReport self message ⌝ }
+    {
+        let head = message.head;
+        let sender = head.sender;
+        let news = message.news;
+        let me = self.me;
+        let candidate = self.candidate;
+        let held = self.matrix;
+        let flags = self.awaited;
+        let copy = self.copy;
+        let row = matrix::patch(matrix::row(held, sender), news);
+        let matrix = matrix::with_row(held, sender, row);
+        let awaited = machine::without(flags, sender);
+        Initiator {
+            n: self.n,
+            me,
+            purpose: self.purpose,
+            ended: self.ended,
+            candidate,
+            rounds: self.rounds,
+            awaited,
+            matrix,
+            copy,
+        }
+    }
+
+    // The initiator's own step back, once all awaited reports are in.
+    fn step_back(self, rows: TableRows, sent: &[Counter], received: &[Counter]) -> Initiator
+        requires { ⌜ Given rows (now sent) (now received) (self .me .0) ⌝ }
+        ensures { λ r. ⌜ r ≡ stepBack (ownOf (rows .shape) (now (sent .entry)) (now (received .entry)) (self .me .0 - 1)) self ⌝ }
+    {
+        let me = self.me;
+        let held = self.matrix;
+        let awaited = self.awaited;
+        let copy = self.copy;
+        let shape = rows.shape;
+        let counts = shape.counts;
+        let place = me.0 - 1;
+        let known = matrix::column(held, me);
+        let candidate = consistency::newest_permitted(
+            rows,
+            received,
+            me,
+            Checkpoint(counts[place]),
+            known,
+        );
+        let row = machine::sent_row(rows, sent, me, candidate);
+        let matrix = matrix::with_row(held, me, row);
+        Initiator {
+            n: self.n,
+            me,
+            purpose: self.purpose,
+            ended: self.ended,
+            candidate,
+            rounds: self.rounds,
+            awaited,
+            matrix,
+            copy,
+        }
+    }
+
+    // Does the column of process p, which counts from 0, differ from the copy's, p being a participant?
+    fn is_polled(self, p: usize) -> bool
+        requires { ⌜ (1 ≤ self .me .0) × (p < 16) ⌝ }
+        ensures { λ r. ⌜ r ≡ (isParticipant (self .n) (self .me .0 - 1) p && not (same (column (self .matrix) p) (column (self .copy) p))) ⌝ }
+    {
+        let me = self.me;
+        let matrix = self.matrix;
+        let copy = self.copy;
+        if !machine::is_participant(self.n, me.0 - 1, p) {
+            return false;
+        }
+        !matrix::same(
+            matrix::column(matrix, Process(p + 1)),
+            matrix::column(copy, Process(p + 1)),
+        )
+    }
+
+    // Each participant whose column differs from the copy.
+    fn polled(self) -> [bool; 16]
+        requires { ⌜ 1 ≤ self .me .0 ⌝ }
+        ensures { λ r. ⌜ r ≡ polled self ⌝ }
+    {
+        let mut flags = [false; 16];
+        let mut p = 0;
+        while p < book::MOST_PROCESSES {
+            flags[p] = self.is_polled(p);
+            p += 1;
+        }
+        flags
+    }
+
+    // A poll goes to them.
+    fn poll(self) -> InitiatorStep
+        requires { ⌜ (1 ≤ self .me .0) × (self .rounds < countLimit) ⌝ }
+        ensures { λ r. ⌜ r ≡ poll self ⌝ }
+    {
+        let me = self.me;
+        let matrix = self.matrix;
+        let copy = self.copy;
+        let to = self.polled();
+        let news = matrix::polls(matrix, copy);
+        let head = Head {
+            kind: 2,
+            purpose: self.purpose,
+            sender: me,
+        };
+        let state = self.wait(to);
+        let outgoing = Outgoing { head, to, news };
+        InitiatorStep { state, outgoing }
+    }
+
+    // Every participant gets a termination.
+    fn terminate(self) -> InitiatorStep
+        requires { ⌜ 1 ≤ self .me .0 ⌝ }
+        ensures { λ r. ⌜ r ≡ terminate self ⌝ }
+    {
+        let me = self.me;
+        let candidate = self.candidate;
+        let awaited = self.awaited;
+        let matrix = self.matrix;
+        let copy = self.copy;
+        let to = machine::participants(self.n, me);
+        let news = [Count(matrix::NOT_KNOWN); 256];
+        let head = Head {
+            kind: 2,
+            purpose: self.purpose,
+            sender: me,
+        };
+        let state = Initiator {
+            n: self.n,
+            me,
+            purpose: self.purpose,
+            ended: true,
+            candidate,
+            rounds: self.rounds,
+            awaited,
+            matrix,
+            copy,
+        };
+        let outgoing = Outgoing { head, to, news };
+        InitiatorStep { state, outgoing }
+    }
+
+    // Compares with the copy: polls, or terminates if no column differs.
+    fn compare(self) -> InitiatorStep
+        requires { ⌜ (1 ≤ self .me .0) × (self .rounds < countLimit) ⌝ }
+        ensures { λ r. ⌜ r ≡ compare self ⌝ }
+    {
+        let to = self.polled();
+        if machine::someone(to) {
+            return self.poll();
+        }
+        self.terminate()
+    }
+
+    // Goes on waiting.
+    fn silent(self) -> InitiatorStep
+        ensures { λ r. ⌜ r ≡ silent self ⌝ }
+    {
+        let me = self.me;
+        let head = Head {
+            kind: 2,
+            purpose: self.purpose,
+            sender: me,
+        };
+        InitiatorStep {
+            state: self,
+            outgoing: machine::nothing(head),
+        }
+    }
+
+    // The step that a report asks for. Inner: the message was awaited.
+    pub fn step(
+        self,
+        rows: TableRows,
+        sent: &[Counter],
+        received: &[Counter],
+        message: Message,
+    ) -> InitiatorStep
+        requires { ⌜ Given rows (now sent) (now received) (self .me .0) ⌝ }
+        requires { ⌜ (1 ≤ message .head .sender .0) × (message .head .sender .0 ≤ 16) ⌝ }
+        requires { ⌜ self .rounds < countLimit ⌝ }
+        ensures { λ r. ⌜ r ≡ step (ownOf (rows .shape) (now (sent .entry)) (now (received .entry)) (self .me .0 - 1)) self message ⌝ }
+    {
+        let taken = self.take_report(message);
+        let awaited = taken.awaited;
+        if machine::someone(awaited) {
+            return taken.silent();
+        }
+        let stepped = taken.step_back(rows, sent, received);
+        stepped.compare()
+    }
+}
