@@ -1,26 +1,19 @@
 // The calls, and what is printed of their answers.
-use crate::states;
-use crate::states::Bench;
-use crate::states::ROOM;
+use bench::fields;
+use bench::fields::Names;
+use bench::states;
+use bench::states::Bench;
+use bench::states::ROOM;
+use bench::steps;
 use book::Counter;
-use book::Process;
-use book::Shape;
 use initiator::Initiator;
-use initiator::InitiatorAnswer;
 use libc::STDOUT_FILENO;
 use participant::Participant;
-use participant::ParticipantAnswer;
 ghost use Prim.Native.Nat.{_≤_};
 ghost use lib.ListN.{length};
 
 // What stands in the buffer before a call.
 const IN_BUFFER: u8 = 170;
-
-// Who the machine is: its process, the initiator and the purpose.
-pub struct Names {
-    pub numbers: [u64; 3],
-    pub readable: bool,
-}
 
 // Nothing where it holds, so that what does not shows as a difference.
 fn expect(holds: bool, word: &[u8]) {
@@ -32,12 +25,6 @@ fn expect(holds: bool, word: &[u8]) {
 
 fn buffer() -> [u8; ROOM] {
     [IN_BUFFER; ROOM]
-}
-
-pub fn least(a: usize, b: usize) -> usize
-    ensures { λ r. ⌜ r ≤ b ⌝ }
-{
-    if a < b { a } else { b }
 }
 
 fn print_byte(b: u8) {
@@ -67,7 +54,7 @@ fn print_mail(out: &[u8], lengths: [usize; 16], shown: bool) -> usize
     let mut at = 0;
     let mut p = 0;
     while p < 16 {
-        let end = at + least(lengths[p], out.len() - at);
+        let end = at + fields::least(lengths[p], out.len() - at);
         if shown && at < end {
             print_message(p + 1, &out[at..end]);
         }
@@ -101,39 +88,24 @@ fn print_answer(question: u32, out: &[u8], lengths: [usize; 16], shown: bool) {
     expect(untouched(out, end), b"bytes");
 }
 
-// A participant's first state.
-pub fn try_first(bench: Bench, names: Names, sent: &[Counter], received: &[Counter]) -> Bench {
-    let shape = bench.shape;
-    let numbers = names.numbers;
-    let me = Process(numbers[0] as usize);
-    let initiator = Process(numbers[1] as usize);
-    let made = Participant::first(shape, sent, received, me, initiator, numbers[2]);
-    let answer = made.answer;
-    let state = made.state;
-    let question = vectors::question_of(answer);
-    io::print_decimal(STDOUT_FILENO, question as u64);
-    expect(
-        question == 0 || states::same_participants(state, states::no_participant()),
-        b"state",
-    );
-    let mut next = states::bench_on(shape);
-    next.participant = state;
-    next
+// The machine after its first call. Beside a refusal the state is all zero.
+fn after_first(question: u32, bench: Bench, state: Participant) -> Bench {
+    expect(question == 0 || states::is_no_participant(state), b"state");
+    states::with_participant(states::bench_on(bench.shape), state)
 }
 
-// An initiator begins, with the first bytes of a buffer.
-fn begin_in(
-    shape: Shape,
-    sent: &[Counter],
-    received: &[Counter],
-    names: Names,
-    out: &mut [u8],
-    room: usize,
-) -> InitiatorAnswer {
-    let n = vectors::part_of(room, out);
-    let numbers = names.numbers;
-    let me = Process(numbers[0] as usize);
-    Initiator::begin(shape, sent, received, me, numbers[2], &mut out[..n])
+// A participant's first state.
+pub fn try_first(bench: Bench, names: Names, sent: &[Counter], received: &[Counter]) -> Bench {
+    let made = steps::first_of(bench, names, sent, received);
+    let answer = made.answer;
+    let question = vectors::question_of(answer);
+    io::print_decimal(STDOUT_FILENO, question as u64);
+    after_first(question, bench, made.state)
+}
+
+fn after_begin(question: u32, bench: Bench, state: Initiator) -> Bench {
+    expect(question == 0 || states::is_no_initiator(state), b"state");
+    states::with_initiator(states::bench_on(bench.shape), state)
 }
 
 // An initiator begins.
@@ -145,35 +117,24 @@ pub fn try_begin(
     shown: bool,
 ) -> Bench {
     let mut out = buffer();
-    let shape = bench.shape;
-    let made = begin_in(shape, sent, received, names, &mut out, bench.room);
+    let made = steps::begin_in(bench, names, sent, received, &mut out);
     let answer = made.answer;
-    let state = made.state;
-    let lengths = made.lengths;
     let question = vectors::question_of(answer);
+    let lengths = made.lengths;
     print_answer(question, &out, lengths, shown);
-    expect(
-        question == 0 || states::same_initiators(state, states::no_initiator()),
-        b"state",
-    );
-    let mut next = states::bench_on(shape);
-    next.initiates = true;
-    next.initiator = state;
-    next
+    after_begin(question, bench, made.state)
 }
 
-// A participant receives a message, with the first bytes of a buffer.
-fn participant_in(
-    state: Participant,
-    shape: Shape,
-    sent: &[Counter],
-    received: &[Counter],
-    s: &[u8],
-    out: &mut [u8],
-    room: usize,
-) -> ParticipantAnswer {
-    let n = vectors::part_of(room, out);
-    state.receive(shape, sent, received, s, &mut out[..n])
+// The machine after a message: a refusal hands back the state that it was given, and what was on the bench stays.
+fn participant_after(question: u32, edited: Bench, bench: Bench, state: Participant) -> Bench {
+    if question == 0 {
+        return states::with_participant(bench, state);
+    }
+    expect(
+        states::same_participants(state, edited.participant),
+        b"state",
+    );
+    bench
 }
 
 // A participant receives a message.
@@ -185,35 +146,20 @@ pub fn to_participant(
     s: &[u8],
 ) -> Bench {
     let mut out = buffer();
-    let shape = edited.shape;
-    let state = edited.participant;
-    let made = participant_in(state, shape, sent, received, s, &mut out, edited.room);
+    let made = steps::participant_in(edited, sent, received, s, &mut out);
     let answer = made.answer;
-    let after = made.state;
-    let lengths = made.lengths;
     let question = vectors::question_of(answer);
+    let lengths = made.lengths;
     print_answer(question, &out, lengths, true);
-    if question != 0 {
-        expect(states::same_participants(after, state), b"state");
-        return bench;
-    }
-    let mut next = bench;
-    next.participant = after;
-    next
+    participant_after(question, edited, bench, made.state)
 }
 
-// An initiator receives a message, with the first bytes of a buffer.
-fn initiator_in(
-    state: Initiator,
-    shape: Shape,
-    sent: &[Counter],
-    received: &[Counter],
-    s: &[u8],
-    out: &mut [u8],
-    room: usize,
-) -> InitiatorAnswer {
-    let n = vectors::part_of(room, out);
-    state.receive(shape, sent, received, s, &mut out[..n])
+fn initiator_after(question: u32, edited: Bench, bench: Bench, state: Initiator) -> Bench {
+    if question == 0 {
+        return states::with_initiator(bench, state);
+    }
+    expect(states::same_initiators(state, edited.initiator), b"state");
+    bench
 }
 
 // An initiator receives a message.
@@ -225,19 +171,10 @@ pub fn to_initiator(
     s: &[u8],
 ) -> Bench {
     let mut out = buffer();
-    let shape = edited.shape;
-    let state = edited.initiator;
-    let made = initiator_in(state, shape, sent, received, s, &mut out, edited.room);
+    let made = steps::initiator_in(edited, sent, received, s, &mut out);
     let answer = made.answer;
-    let after = made.state;
-    let lengths = made.lengths;
     let question = vectors::question_of(answer);
+    let lengths = made.lengths;
     print_answer(question, &out, lengths, true);
-    if question != 0 {
-        expect(states::same_initiators(after, state), b"state");
-        return bench;
-    }
-    let mut next = bench;
-    next.initiator = after;
-    next
+    initiator_after(question, edited, bench, made.state)
 }

@@ -3,80 +3,48 @@
 // answer is not taken from it. Where something else that must hold does not, the line ends in an exclamation mark and a
 // word.
 mod calls;
-mod edits;
-mod states;
 
+use bench::fields;
+use bench::fields::Names;
+use bench::states;
+use bench::states::Bench;
 use book::Counter;
 use book::Shape;
-use calls::Names;
 use libc::STDIN_FILENO;
 use libc::STDOUT_FILENO;
-use states::Bench;
 use vectors::BookBytes;
-use vectors::Decimal;
-ghost use Prim.Native.Nat.{_≤_};
-ghost use lib.ListN.{length};
 
 // More than the longest message of a line.
 const MESSAGE: usize = 512;
 
-// The tables of the book that a field spells; none where it cannot be read.
-fn tables_of(field: &[u8], sent: &mut [Counter], received: &mut [Counter]) -> Shape {
-    let mut book = vectors::book_buffer();
-    let found = vectors::book_into(field, 0, field.len(), &mut book);
-    match found {
-        BookBytes::Length(length) => {
-            let n = vectors::part_of(length, &book);
-            let read = reader::read(&book[..n], sent, received);
-            read.shape
-        }
-        BookBytes::Unreadable => {
-            let counts = [0; 16];
-            Shape { n: 0, counts }
-        }
-    }
-}
-
-// The first three fields: the machine's process, the initiator and the purpose.
-fn names_in(fields: &[u8]) -> Names {
-    let mut numbers = [0u64; 3];
-    let mut at = 0;
-    let mut k = 0;
-    while k < 3 {
-        let end = bytes::scan::find(fields, at, fields.len(), b' ');
-        let Decimal::Number(v) = vectors::decimal_in(fields, at, end) else {
-            return Names {
-                numbers,
-                readable: false,
-            };
-        };
-        numbers[k] = v;
-        at = vectors::next_field(end, fields.len());
-        k += 1;
-    }
-    Names {
-        numbers,
-        readable: true,
-    }
-}
-
-// A machine of a role, by the names that follow.
-fn try_role(fields: &[u8], bench: Bench, sent: &[Counter], received: &[Counter]) -> Bench {
-    let end = bytes::scan::find(fields, 0, fields.len(), b' ');
-    let rest = vectors::next_field(end, fields.len());
-    let role = &fields[0..end];
-    let names = names_in(&fields[rest..]);
-    if !bench.readable || !names.readable {
-        io::write_all(STDOUT_FILENO, b"?");
-        return bench;
-    }
-    let s = calls::least(bench.sent, sent.len());
-    let r = calls::least(bench.received, received.len());
+// A machine of a role.
+fn try_named(
+    role: &[u8],
+    bench: Bench,
+    names: Names,
+    sent: &[Counter],
+    received: &[Counter],
+) -> Bench {
+    let s = fields::least(bench.sent, sent.len());
+    let r = fields::least(bench.received, received.len());
     if check::same(role, b"participant") {
         return calls::try_first(bench, names, &sent[0..s], &received[0..r]);
     }
     let shown = check::same(role, b"begins");
     calls::try_begin(bench, names, &sent[0..s], &received[0..r], shown)
+}
+
+// A machine of a role, by the names that follow.
+fn try_role(fields: &[u8], bench: Bench, sent: &[Counter], received: &[Counter]) -> Bench {
+    let first = fields::first_in(fields);
+    let end = first.end;
+    let rest = first.next;
+    let names = fields::names_in(&fields[rest..]);
+    if !bench.readable || !names.readable {
+        io::write_all(STDOUT_FILENO, b"?");
+        return bench;
+    }
+    try_named(&fields[0..end], bench, names, sent, received)
 }
 
 // A new machine, on tables after the edits.
@@ -98,11 +66,11 @@ fn try_machine(
     sent: &mut [Counter],
     received: &mut [Counter],
 ) -> Bench {
-    let end = bytes::scan::find(fields, 0, fields.len(), b' ');
-    let rest = vectors::next_field(end, fields.len());
-    let names = &fields[rest..];
-    let shape = tables_of(&fields[0..end], sent, received);
-    try_edited(edits, names, shape, sent, received)
+    let first = fields::first_in(fields);
+    let end = first.end;
+    let rest = first.next;
+    let shape = fields::tables_of(&fields[0..end], sent, received);
+    try_edited(edits, &fields[rest..], shape, sent, received)
 }
 
 // A message to the machine after the edits.
@@ -113,8 +81,8 @@ fn deliver(
     received: &[Counter],
     message: &[u8],
 ) -> Bench {
-    let s = calls::least(edited.sent, sent.len());
-    let r = calls::least(edited.received, received.len());
+    let s = fields::least(edited.sent, sent.len());
+    let r = fields::least(edited.received, received.len());
     if bench.initiates {
         return calls::to_initiator(edited, bench, &sent[0..s], &received[0..r], message);
     }
@@ -144,21 +112,6 @@ fn try_message(
     deliver(edited, bench, sent, received, &message[..n])
 }
 
-// Where the first field begins that is no edit.
-fn verb_in(line: &[u8]) -> usize
-    ensures { λ r. ⌜ r ≤ length (now (line .entry)) ⌝ }
-{
-    let mut at = 0;
-    while at < line.len() {
-        let end = bytes::scan::find(line, at, line.len(), b' ');
-        if bytes::scan::find(line, at, end, b'=') == end {
-            return at;
-        }
-        at = vectors::next_field(end, line.len());
-    }
-    at
-}
-
 // The machine after a call that a line says, with its edits: a new one, or the one that got a message.
 fn try_call(
     edits: &[u8],
@@ -167,8 +120,9 @@ fn try_call(
     sent: &mut [Counter],
     received: &mut [Counter],
 ) -> Bench {
-    let end = bytes::scan::find(call, 0, call.len(), b' ');
-    let rest = vectors::next_field(end, call.len());
+    let first = fields::first_in(call);
+    let end = first.end;
+    let rest = first.next;
     let fields = &call[rest..];
     if check::same(&call[0..end], b"machine") {
         return try_machine(edits, fields, sent, received);
@@ -186,7 +140,7 @@ fn try_line(line: &[u8], bench: Bench, sent: &mut [Counter], received: &mut [Cou
     if is_comment(line) {
         return bench;
     }
-    let verb = verb_in(line);
+    let verb = fields::verb_in(line);
     let next = try_call(&line[0..verb], &line[verb..], bench, sent, received);
     io::write_all(STDOUT_FILENO, b"\n");
     next

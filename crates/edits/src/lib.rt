@@ -1,5 +1,6 @@
-// Edits that a line says of its call: of the machine's state, of what is lent, of the tables.
-use crate::states::Bench;
+// Edits that a line says of its call: of the machine's state, of what is lent, of the tables. Test support, with
+// no input and no output of its own.
+use bench::states::Bench;
 use book::Checkpoint;
 use book::Count;
 use book::Counter;
@@ -63,17 +64,11 @@ fn edit_in(field: &[u8]) -> Edit
     }
 }
 
-// What is lent, or the shape, after an edit of it.
-fn edit_lent(bench: Bench, name: &[u8], i: usize, v: u32) -> Bench {
+// The shape after an edit of it; no other name is left.
+fn edit_shape(bench: Bench, name: &[u8], i: usize, v: u32) -> Bench {
     let mut next = bench;
     let mut shape = bench.shape;
-    if check::same(name, b"room") {
-        next.room = v as usize;
-    } else if check::same(name, b"sent_entries") {
-        next.sent = v as usize;
-    } else if check::same(name, b"received_entries") {
-        next.received = v as usize;
-    } else if check::same(name, b"processes") {
+    if check::same(name, b"processes") {
         shape.n = v as usize;
     } else if check::same(name, b"counts") && i < 16 {
         shape.counts[i] = v as usize;
@@ -81,6 +76,40 @@ fn edit_lent(bench: Bench, name: &[u8], i: usize, v: u32) -> Bench {
         next.readable = false;
     }
     next.shape = shape;
+    next
+}
+
+// What is lent, or the shape, after an edit of it.
+fn edit_lent(bench: Bench, name: &[u8], i: usize, v: u32) -> Bench {
+    let mut next = bench;
+    let number = v as usize;
+    if check::same(name, b"room") {
+        next.room = number;
+    } else if check::same(name, b"sent_entries") {
+        next.sent = number;
+    } else if check::same(name, b"received_entries") {
+        next.received = number;
+    } else {
+        return edit_shape(bench, name, i, v);
+    }
+    next
+}
+
+// What a participant knows after an edit of it, or what is lent.
+fn edit_known(bench: Bench, name: &[u8], i: usize, v: u32) -> Bench {
+    let mut next = bench;
+    let mut state = bench.participant;
+    if check::same(name, b"candidate") {
+        let candidate = Checkpoint(v as usize);
+        state.candidate = candidate;
+    } else if check::same(name, b"row") && i < 16 {
+        state.row[i] = Count(v);
+    } else if check::same(name, b"column") && i < 16 {
+        state.column[i] = Count(v);
+    } else {
+        return edit_lent(bench, name, i, v);
+    }
+    next.participant = state;
     next
 }
 
@@ -99,17 +128,27 @@ fn edit_participant(bench: Bench, name: &[u8], i: usize, v: u32) -> Bench {
         state.initiator = initiator;
     } else if check::same(name, b"purpose") {
         state.purpose = v as u64;
-    } else if check::same(name, b"candidate") {
-        let candidate = Checkpoint(number);
-        state.candidate = candidate;
-    } else if check::same(name, b"row") && i < 16 {
-        state.row[i] = Count(v);
-    } else if check::same(name, b"column") && i < 16 {
-        state.column[i] = Count(v);
+    } else {
+        return edit_known(bench, name, i, v);
+    }
+    next.participant = state;
+    next
+}
+
+// What an initiator gathers after an edit of it, or what is lent.
+fn edit_gathered(bench: Bench, name: &[u8], i: usize, v: u32) -> Bench {
+    let mut next = bench;
+    let mut state = bench.initiator;
+    if check::same(name, b"awaited") && i < 16 {
+        state.awaited[i] = v != 0;
+    } else if check::same(name, b"matrix") && i < matrix::ENTRIES {
+        state.matrix[i] = Count(v);
+    } else if check::same(name, b"copy") && i < matrix::ENTRIES {
+        state.copy[i] = Count(v);
     } else {
         return edit_lent(bench, name, i, v);
     }
-    next.participant = state;
+    next.initiator = state;
     next
 }
 
@@ -130,14 +169,8 @@ fn edit_initiator(bench: Bench, name: &[u8], i: usize, v: u32) -> Bench {
         state.candidate = candidate;
     } else if check::same(name, b"rounds") {
         state.rounds = v;
-    } else if check::same(name, b"awaited") && i < 16 {
-        state.awaited[i] = v != 0;
-    } else if check::same(name, b"matrix") && i < matrix::ENTRIES {
-        state.matrix[i] = Count(v);
-    } else if check::same(name, b"copy") && i < matrix::ENTRIES {
-        state.copy[i] = Count(v);
     } else {
-        return edit_lent(bench, name, i, v);
+        return edit_gathered(bench, name, i, v);
     }
     next.initiator = state;
     next

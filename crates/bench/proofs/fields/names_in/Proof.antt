@@ -1,10 +1,10 @@
--- `try_machines::names_in` is safe and ends: every field lies in the line.
+-- `bench::fields::names_in` is safe and ends: every field lies in the line.
 -- Assumes nothing.
 use Prim.Native.Nat.{_-_, _≤_}
 use borrow.Author.Needs.{needs}
 use lib.ListN.{length}
-use Rattle.try_machines.proofs.names_in.Statement.{statement}
-use Rattle.try_machines.proofs.names_in.Tie as tie
+use Rattle.bench.proofs.fields.names_in.Statement.{statement}
+use Rattle.bench.proofs.fields.names_in.Tie as tie
 
 abbrev Inv-loop : tie.InvT-loop
 Inv-loop fields numbers₀ at₀ k₀ numbers at k = at ≤ length fields

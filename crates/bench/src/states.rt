@@ -70,6 +70,21 @@ pub fn bench_on(shape: Shape) -> Bench {
     }
 }
 
+// A participant in place of the one that was there.
+pub fn with_participant(bench: Bench, state: Participant) -> Bench {
+    let mut next = bench;
+    next.participant = state;
+    next
+}
+
+// An initiator in place of what was there.
+pub fn with_initiator(bench: Bench, state: Initiator) -> Bench {
+    let mut next = bench;
+    next.initiates = true;
+    next.initiator = state;
+    next
+}
+
 fn stage_number(stage: Stage) -> u32 {
     match stage {
         Stage::Before => 0,
@@ -99,6 +114,11 @@ pub fn same_participants(a: Participant, b: Participant) -> bool {
         && stage_number(stage) == stage_number(stage_again)
         && matrix::same(row, row_again)
         && matrix::same(column, column_again)
+}
+
+// Is it what stands beside a refusal?
+pub fn is_no_participant(state: Participant) -> bool {
+    same_participants(state, no_participant())
 }
 
 fn same_flags(a: [bool; 16], b: [bool; 16]) -> bool {
@@ -145,4 +165,8 @@ pub fn same_initiators(a: Initiator, b: Initiator) -> bool {
         && same_flags(awaited, awaited_again)
         && same_matrices(matrix, matrix_again)
         && same_matrices(copy, copy_again)
+}
+
+pub fn is_no_initiator(state: Initiator) -> bool {
+    same_initiators(state, no_initiator())
 }

@@ -1,10 +1,10 @@
--- `try_machines::verb_in` meets its contract: each field begins behind the one before.
+-- `bench::fields::verb_in` meets its contract: each field begins behind the one before.
 -- Assumes nothing.
 use Prim.Native.Nat.{_-_, _≤_}
 use borrow.Author.Needs.{needs}
 use lib.ListN.{length}
-use Rattle.try_machines.proofs.verb_in.Statement.{statement}
-use Rattle.try_machines.proofs.verb_in.Tie as tie
+use Rattle.bench.proofs.fields.verb_in.Statement.{statement}
+use Rattle.bench.proofs.fields.verb_in.Tie as tie
 
 abbrev Inv-loop : tie.InvT-loop
 Inv-loop line at₀ at = at ≤ length line

@@ -1,11 +1,11 @@
--- `try_machines::edits::make_edits` is safe and ends: each field begins behind the one before.
+-- `edits::make_edits` is safe and ends: each field begins behind the one before.
 -- Assumes nothing.
 use mathlib.Core.Path.{_≡_}
 use Prim.Native.Nat.{_-_, _≤_}
 use native.Mathlib.Omega.{arith}
 use lib.ListN.{length}
-use Rattle.try_machines.proofs.edits.make_edits.Statement.{statement}
-use Rattle.try_machines.proofs.edits.make_edits.Tie as tie
+use Rattle.edits.proofs.make_edits.Statement.{statement}
+use Rattle.edits.proofs.make_edits.Tie as tie
 
 abbrev Inv-loop : tie.InvT-loop
 Inv-loop fields sent₀ received₀ now₀ at₀ sent received now at = (at ≤ length fields) × (length sent ≡ length sent₀) × (length received ≡ length received₀)
