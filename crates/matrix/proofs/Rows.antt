@@ -81,7 +81,3 @@ entry-of-matrix f j p h m =
 pub row-length : (f : ℕ → ℕ) → length (asRow f) ≡ 16
 unfolding asRow
 row-length f = length-tab {A = Count} 16 (λ p. record { 0 = f p })
-
-pub matrix-length : (f : ℕ → ℕ → ℕ) → length (asMatrix f) ≡ 256
-unfolding asMatrix
-matrix-length f = length-tab {A = Count} 256 (λ i. record { 0 = f (i / 16) (i % 16) })
