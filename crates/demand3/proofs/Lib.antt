@@ -1,0 +1,14 @@
+pub mod Pieces
+pub mod Turn
+pub mod Workers
+pub mod Kept
+pub mod Counts
+pub mod Lists
+pub mod Searching
+pub mod Start
+pub mod Exactly
+pub mod Claims
+pub mod Reached
+pub mod Others
+pub mod Restarting
+pub mod Theorems

@@ -1,0 +1,121 @@
+-- A turn leaves the other strands alone, unless it is the initiator's sending step.
+use mathlib.Core.Path.{_≡_, refl, sym, ap, _∙_}
+use mathlib.Core.Bool.{Bool, true, false, _&&_}
+use mathlib.Core.List.{List}
+use mathlib.Core.Logic.{⊎-elim}
+use Prim.Native.Nat.{ℕ, _-_, _<_}
+use borrow.Author.Tests.{ne-eqb}
+use Rattle.book.specs.declared.Process.{Process}
+use Rattle.line_theory.proofs.Over.{getD-tab}
+use Rattle.message.specs.declared.Head.{Head}
+use Rattle.mail.specs.declared.Outgoing.{Outgoing}
+use Rattle.mail.specs.Outgoing.{goesTo}
+use Rattle.machine.specs.Own.{ownOf}
+use Rattle.machine.specs.Sends.{otherHead, nothing}
+use Rattle.participant.specs.Step as participant
+use Rattle.participant.specs.Calls as participant-calls
+use Rattle.participant_laws.specs.Accepts.{endsIt}
+use Rattle.participant_laws.proofs.Theorems.{end-is-silent}
+use Rattle.session.specs.declared.Session.{Session}
+use Rattle.session.specs.declared.Waiting.{Waiting}
+use Rattle.session.specs.declared.Waiting.the-variants.{Nothing, Asking, Ending, Report, Stray}
+use Rattle.session.specs.Workers.{initiatorOf, participantAt}
+use Rattle.session.specs.Held.{waitingBytes, held, isReport}
+use Rattle.session.specs.Steps.{onStrand, deliverDown}
+use Rattle.session.specs.Turns.{Ongoing}
+use Rattle.session_theory.proofs.Search.{Search, IsSearch, size, isPart}
+use Rattle.session_theory.proofs.Facts.{part-within}
+use Rattle.session_theory.proofs.Moves.{goesDown}
+use Rattle.search_turns.proofs.Strand.{strand-goes, strand-silent, box-kept}
+use Rattle.demand3.specs.Statement.{atStart, after}
+use Rattle.demand3.specs.Beside.{initiatorSends, LeavesOthers}
+use Rattle.demand3.proofs.Pieces.{Pieces}
+use Rattle.demand3.proofs.Turn.{nextOf, goes, Refused, named-part}
+use Rattle.demand3.proofs.Kept.{Kept, Holds, Moved, turn}
+use Rattle.demand3.proofs.Counts.{lastAwaited, does, report-silent}
+use Rattle.demand3.proofs.Lists.{listed}
+use Rattle.demand3.proofs.Searching.{InSearch, search-kept}
+use Rattle.demand3.proofs.Start.{searchOf, is-search, searching, search-holds}
+
+nothing-goes : (head : Head) (q : ℕ) → q < 16 → goesTo (nothing head) q ≡ false
+unfolding nothing
+nothing-goes head q h = getD-tab 16 (λ p. false) q false h
+
+-- what participant k sends goes on its own strand
+strand-other : (k initiator : ℕ) (o : Outgoing) (q : ℕ) → q < 16 → (q ≡ k → ⊥) → goesTo (onStrand k initiator o) q ≡ false
+strand-other k initiator o q small other = go (goesTo o initiator) refl
+  where
+    go : (v : Bool) → goesTo o initiator ≡ v → goesTo (onStrand k initiator o) q ≡ false
+    go true e = strand-goes k initiator o e q small ∙ ne-eqb q k other
+    go false e = strand-silent k initiator o e q small
+
+module _ (g : Search) (s : Session) (k : ℕ) (b : List ℕ) (q : ℕ) (small : q < 16) where
+  down-other : (q ≡ k → ⊥) → goesTo (goesDown g s k b .outgoing) q ≡ false
+  unfolding deliverDown
+  down-other other =
+      strand-other k (initiatorOf s)
+      (participant.step (ownOf (g .shape) (g .sent) (g .received) k) (participantAt s k)
+      (participant-calls.readBy (size g) (participantAt s k) b) .outgoing)
+      q small other
+
+  -- a message that ends the participant makes it send nothing
+  pub end-silent : initiatorOf s < 16 → endsIt (participant-calls.readBy (size g) (participantAt s k) b) ≡ true
+      → goesTo (goesDown g s k b .outgoing) q ≡ false
+  unfolding deliverDown
+  end-silent lead ends =
+      let own = ownOf (g .shape) (g .sent) (g .received) k in
+      let m = participant-calls.readBy (size g) (participantAt s k) b in
+      strand-silent k (initiatorOf s) (participant.step own (participantAt s k) m .outgoing)
+      (end-is-silent own (participantAt s k) m ends (initiatorOf s) lead) q small
+
+  -- nothing is sent to others but with the initiator's sending step
+  does-other :
+      (w : Waiting) → held (size g) s k b ≡ w → (isReport w && lastAwaited (s .machine) k) ≡ false → (q ≡ k → ⊥)
+      → goesTo (does g s k b w .outgoing) q ≡ false
+  does-other Nothing e none other = nothing-goes (otherHead (s .purpose) (s .initiator)) q small
+  does-other Stray e none other = nothing-goes (otherHead (s .purpose) (s .initiator)) q small
+  does-other Asking e none other = down-other other
+  does-other Ending e none other = down-other other
+  does-other Report e none other = report-silent g s k b e none q small
+
+module _ (pieces : Pieces) (g : Search) (is : IsSearch g) (Inv : Session → (ℕ → List ℕ) → Type 0) (kept : Kept g Inv) where
+  module _ (o : Ongoing) (holds : Holds g Inv o) (p : Process) (k : ℕ) where
+    abbrev j : ℕ
+    j = p .0 - 1
+
+    abbrev box : ℕ → List ℕ
+    box = holds .box
+
+    others-left :
+        isPart g k ≡ true → (k ≡ j → ⊥) → initiatorSends (size g) o p ≡ false
+        → waitingBytes (size g) (nextOf g o p .session) (nextOf g o p .strands) k
+        ≡ waitingBytes (size g) (o .session) (o .strands) k
+    others-left there other none =
+        ⊎-elim
+        (λ (r : Refused g o p). rw (r .session, r .strands))
+        (λ (m : Moved g Inv o p box). moved m)
+        (turn pieces g is Inv kept o holds p)
+      where
+        moved : Moved g Inv o p box
+            → waitingBytes (size g) (nextOf g o p .session) (nextOf g o p .strands) k
+            ≡ waitingBytes (size g) (o .session) (o .strands) k
+        moved m =
+            let silent : (isReport (held (size g) (o .session) j (box j)) && lastAwaited (o .session .machine) j) ≡ false =
+            ap
+            (λ (bytes : List ℕ). isReport (held (size g) (o .session) j bytes) && lastAwaited (o .session .machine) j)
+            (sym (holds .laid j (named-part g p (m .named)) .bytes))
+            ∙ none in
+            m .laid k there .bytes
+            ∙ box-kept (goes g (o .session) j (box j) .outgoing) j box k
+            (does-other g (o .session) j (box j) k (part-within g is k there) (held (size g) (o .session) j (box j)) refl silent other)
+            other
+            ∙ sym (holds .laid k there .bytes)
+
+module _ (pieces : Pieces) where
+  pub leaves-others : LeavesOthers
+  leaves-others b a h turns p k there other none =
+      let g : Search = searchOf b in
+      let is : IsSearch g = is-search b a in
+      let kept : Kept g (InSearch g) = search-kept pieces g is (searching b a h) in
+      let all = listed pieces g is (InSearch g) kept turns (atStart b) (search-holds b a pieces h) in
+      others-left pieces g is (InSearch g) kept (after b turns) (all .holds) p k there other none

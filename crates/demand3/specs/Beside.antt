@@ -1,0 +1,95 @@
+-- What users rely on beside demand 3: a search comes to its end, a turn leaves the other strands alone, and what a bare restart
+-- comes to.
+use mathlib.Core.Path.{_≡_}
+use mathlib.Core.Bool.{Bool, true, false, not, _&&_, _||_}
+use mathlib.Core.List.{List, _++_}
+use mathlib.Core.Logic.{_⊎_}
+use Prim.Native.Nat.{ℕ, _+_, _-_, _≤_, _<_}
+use lib.ListN.{length}
+use lib.Dec.{eqb}
+use Rattle.book.specs.declared.Process.{Process}
+use Rattle.book.specs.Bounds.{mostProcesses}
+use Rattle.line_theory.specs.Over.{allTo}
+use Rattle.line_theory.specs.Search.{line}
+use Rattle.machine.specs.Named.{isParticipant}
+use Rattle.machine.specs.Flags.{flag}
+use Rattle.strands.specs.Strands.{roomForAll}
+use Rattle.session.specs.declared.Session.{Session}
+use Rattle.session.specs.Workers.{standsOn, hasEnded, waitsOn, initiatorOf}
+use Rattle.session.specs.Held.{waitingBytes, held, isReport}
+use Rattle.session.specs.Turns.{Ongoing, afterTurn, acceptedTurns}
+use Rattle.demand3.specs.Statement.{
+  Beginning,
+  shapeIn,
+  sentIn,
+  receivedIn,
+  viewIn,
+  IsAccepted,
+  Searches,
+  atStart,
+  after,
+  nextQuestion,
+  messageWaits,
+  mostDelivered,
+}
+
+-- With room, some turn is accepted for as long as some worker has not ended,
+abbrev pub GoesOn : Type 0
+GoesOn =
+    (b : Beginning) → IsAccepted b → Searches b → roomForAll (shapeIn b .n) ≤ length (b .strands) → (turns : List Process)
+    → ((j : ℕ) → j < shapeIn b .n → hasEnded (after b turns .session) j ≡ true)
+    ⊎ ((p : Process) × (nextQuestion b turns p ≡ 0))
+
+-- after a list every worker has ended, on the line
+abbrev pub AtEnd : Beginning → List Process → Type 0
+AtEnd b turns =
+    (j : ℕ) → j < shapeIn b .n
+    → (hasEnded (after b turns .session) j ≡ true) × (standsOn (after b turns .session) j ≡ line (viewIn b) j)
+
+abbrev pub acceptedIn : Beginning → List Process → ℕ
+acceptedIn b turns = acceptedTurns (shapeIn b) (sentIn b) (receivedIn b) (atStart b) turns
+
+-- so that from every list on there are further turns, each of them accepted, after which every worker has ended, on the line.
+-- With those accepted before they are at most as many as demand 3 allows.
+abbrev pub EndIsReached : Type 0
+EndIsReached =
+    (b : Beginning) → IsAccepted b → Searches b → roomForAll (shapeIn b .n) ≤ length (b .strands) → (turns : List Process)
+    → (more : List Process)
+    × (acceptedIn b (turns ++ more) ≡ acceptedIn b turns + length more)
+    × (acceptedIn b turns + length more ≤ mostDelivered b)
+    × AtEnd b (turns ++ more)
+
+-- the initiator sends with this turn: it delivers the only report that is awaited still
+abbrev pub initiatorSends : ℕ → Ongoing → Process → Bool
+initiatorSends n o p =
+    let k : ℕ = p .0 - 1 in
+    isReport (held n (o .session) k (waitingBytes n (o .session) (o .strands) k))
+    && allTo mostProcesses (λ q. not (flag (o .session .machine .awaited) q) || eqb q k)
+
+-- A turn on p leaves what waits on every other participant's strand as it was, unless it is the initiator's sending step.
+abbrev pub LeavesOthers : Type 0
+LeavesOthers =
+    (b : Beginning) → IsAccepted b → Searches b → (turns : List Process) (p : Process) (k : ℕ)
+    → let n : ℕ = shapeIn b .n in
+    let before : Ongoing = after b turns in
+    let next : Ongoing = afterTurn (shapeIn b) (sentIn b) (receivedIn b) before p in
+    isParticipant n (b .initiator .0 - 1) k ≡ true → (k ≡ p .0 - 1 → ⊥) → initiatorSends n before p ≡ false
+    → waitingBytes n (next .session) (next .strands) k ≡ waitingBytes n (before .session) (before .strands) k
+
+-- Purpose 2: after n − 1 accepted turns everybody has ended on checkpoint 1, and nothing waits. A turn on a strand where a message
+-- waits is always accepted.
+pub record RestartHolds (b : Beginning) (turns : List Process) : Type 0 where
+  pub few-delivered : acceptedTurns (shapeIn b) (sentIn b) (receivedIn b) (atStart b) turns ≤ shapeIn b .n - 1
+  pub delivered : after b turns .session .delivered ≡ acceptedTurns (shapeIn b) (sentIn b) (receivedIn b) (atStart b) turns
+  pub no-round : after b turns .session .machine .rounds ≡ 0
+  pub on-oldest :
+      (j : ℕ) → j < shapeIn b .n → hasEnded (after b turns .session) j ≡ true → standsOn (after b turns .session) j ≡ 1
+  pub all-ended :
+      acceptedTurns (shapeIn b) (sentIn b) (receivedIn b) (atStart b) turns ≡ shapeIn b .n - 1
+      → ((j : ℕ) → j < shapeIn b .n → hasEnded (after b turns .session) j ≡ true)
+      × (messageWaits (after b turns .session) ≡ false)
+  pub accepted :
+      (p : Process) → 1 ≤ p .0 → waitsOn (after b turns .session) (p .0 - 1) ≡ true → nextQuestion b turns p ≡ 0
+
+abbrev pub RestartEnds : Type 0
+RestartEnds = (b : Beginning) → IsAccepted b → b .purpose ≡ 2 → (turns : List Process) → RestartHolds b turns

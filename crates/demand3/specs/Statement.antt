@@ -1,0 +1,125 @@
+-- Demand 3, over the definitions that the contracts of `read`, `start` and `turn` cite: "Take any accepted book of n processes,
+-- a search for the line (no bare restart) begun on it by any one of them, and every list of turns from that start on, refused
+-- ones included, each given what the call before it left, with nobody else writing meanwhile."
+use mathlib.Core.Path.{_≡_}
+use mathlib.Core.Bool.{Bool, true, not}
+use mathlib.Core.List.{List}
+use mathlib.Core.Logic.{_⊎_}
+use Prim.Native.Nat.{ℕ, _+_, _-_, _*_, _≤_, _<_}
+use lib.ListN.{length}
+use Rattle.book.specs.declared.Shape.{Shape}
+use Rattle.book.specs.declared.Process.{Process}
+use Rattle.book.specs.Bounds.{mostProcesses}
+use Rattle.book.specs.Read.{readQuestion, shapeRead, sentRead, receivedRead}
+use Rattle.line_theory.specs.Over.{allTo}
+use Rattle.line_theory.specs.Sets.{View, IsSet, Consistent, passed}
+use Rattle.line_theory.specs.Search.{line}
+use Rattle.line_theory.specs.OfTables.{viewOf}
+use Rattle.matrix.specs.Matrix.{pick}
+use Rattle.strands.specs.Strands.{roomForAll}
+use Rattle.session.specs.declared.Session.{Session}
+use Rattle.session.specs.Workers.{standsOn, hasEnded, waitsOn}
+use Rattle.session.specs.Calls.{startQuestion, turnQuestion}
+use Rattle.session.specs.Turns.{Ongoing, started, afterTurns, acceptedTurns, waitsBegun}
+
+-- what a list begins with: the bytes of a book and two tables lent to read it, who begins a search, with which purpose, and
+-- the strands lent
+pub record Beginning : Type 0 where
+  pub bytes : List ℕ
+  pub sent : List ℕ
+  pub received : List ℕ
+  pub initiator : Process
+  pub purpose : ℕ
+  pub strands : List ℕ
+
+-- the tables that the read leaves
+abbrev pub shapeIn : Beginning → Shape
+shapeIn b = shapeRead (b .bytes) (b .sent) (b .received)
+
+abbrev pub sentIn : Beginning → List ℕ
+sentIn b = sentRead (b .bytes) (b .sent) (b .received)
+
+abbrev pub receivedIn : Beginning → List ℕ
+receivedIn b = receivedRead (b .bytes) (b .sent) (b .received)
+
+abbrev pub viewIn : Beginning → View
+viewIn b = viewOf (shapeIn b) (sentIn b) (receivedIn b)
+
+-- the read and the start are accepted
+pub record IsAccepted (b : Beginning) : Type 0 where
+  pub read : readQuestion (b .bytes) (b .sent) (b .received) ≡ 0
+  pub start : startQuestion (shapeIn b) (sentIn b) (receivedIn b) (b .initiator) (b .purpose) (b .strands) ≡ 0
+
+-- "a search for the line (no bare restart)": "Purposes 1 and 3 search."
+abbrev pub Searches : Beginning → Type 0
+Searches b = (b .purpose ≡ 1) ⊎ (b .purpose ≡ 3)
+
+-- the session and the strands as the start leaves them, and after a list of turns
+abbrev pub atStart : Beginning → Ongoing
+atStart b = started (shapeIn b) (sentIn b) (receivedIn b) (b .initiator) (b .purpose) (b .strands)
+
+abbrev pub after : Beginning → List Process → Ongoing
+after b turns = afterTurns (shapeIn b) (sentIn b) (receivedIn b) (atStart b) turns
+
+-- the question that a turn naming p would fail then
+abbrev pub nextQuestion : Beginning → List Process → Process → ℕ
+nextQuestion b turns p =
+    turnQuestion (shapeIn b) (sentIn b) (receivedIn b) (after b turns .session) p (after b turns .strands)
+
+-- a message waits on some strand
+abbrev pub messageWaits : Session → Bool
+messageWaits session = not (allTo mostProcesses (λ k. not (waitsOn session k)))
+
+-- some worker has not ended
+abbrev pub someoneGoesOn : ℕ → Session → Bool
+someoneGoesOn n session = not (allTo n (hasEnded session))
+
+-- T: "the number of checkpoints newer than the line's, summed"
+abbrev pub newer : Beginning → ℕ
+newer b = passed (viewIn b) (line (viewIn b))
+
+-- "At most (n − 1) × (2T + 5) messages have been delivered."
+abbrev pub mostDelivered : Beginning → ℕ
+mostDelivered b = (shapeIn b .n - 1) * (2 * newer b + 5)
+
+-- the start is one of the calls with which a wait begins, unless nobody is there to wait for
+abbrev pub startWaits : Beginning → ℕ
+startWaits b = pick (atStart b .session .machine .ended) 0 1
+
+-- after the list
+pub record HoldsAfter (b : Beginning) (turns : List Process) : Type 0 where
+  -- "a message waits exactly when some worker has not ended"
+  pub waits-exactly : messageWaits (after b turns .session) ≡ someoneGoesOn (shapeIn b .n) (after b turns .session)
+  -- "The messages delivered are the accepted turns of the list, and the session's count equals their number."
+  pub delivered :
+      after b turns .session .delivered ≡ acceptedTurns (shapeIn b) (sentIn b) (receivedIn b) (atStart b) turns
+  pub few-delivered : after b turns .session .delivered ≤ mostDelivered b
+  -- "A round is one wait of at least one report, counted as the wait begins."
+  pub rounds :
+      after b turns .session .machine .rounds
+      ≡ startWaits b + waitsBegun (shapeIn b) (sentIn b) (receivedIn b) (atStart b) turns
+  pub few-rounds : after b turns .session .machine .rounds ≤ newer b + 2
+  -- "No worker stands on a checkpoint earlier than the line's,"
+  pub none-below : (j : ℕ) → j < shapeIn b .n → line (viewIn b) j ≤ standsOn (after b turns .session) j
+  -- "and every worker that has ended stands on the line's."
+  pub ended-on-line :
+      (j : ℕ) → j < shapeIn b .n → hasEnded (after b turns .session) j ≡ true
+      → standsOn (after b turns .session) j ≡ line (viewIn b) j
+  -- The line is a consistent set. "Every other consistent set of that book has, at every worker, the line's checkpoint or an
+  -- earlier one."
+  pub line-set : IsSet (viewIn b) (line (viewIn b))
+  pub line-consistent : Consistent (viewIn b) (line (viewIn b))
+  pub latest :
+      (c : ℕ → ℕ) → IsSet (viewIn b) c → Consistent (viewIn b) c → (j : ℕ) → j < shapeIn b .n → c j ≤ line (viewIn b) j
+  -- "a turn naming a strand on which a message waits is refused by question 17 or not at all,"
+  pub accepted-or-full :
+      (p : Process) → 1 ≤ p .0 → waitsOn (after b turns .session) (p .0 - 1) ≡ true
+      → (nextQuestion b turns p ≡ 0) ⊎ (nextQuestion b turns p ≡ 17)
+  -- "and not by 17 where the bytes lent have room for the longest messages that this layout lets wait at once"
+  pub with-room :
+      (p : Process) → 1 ≤ p .0 → waitsOn (after b turns .session) (p .0 - 1) ≡ true
+      → roomForAll (shapeIn b .n) ≤ length (b .strands) → nextQuestion b turns p ≡ 0
+
+-- Demand 3 is one claim over every such list.
+abbrev pub Demand3 : Type 0
+Demand3 = (b : Beginning) → IsAccepted b → Searches b → (turns : List Process) → HoldsAfter b turns

@@ -1,0 +1,10 @@
+pub mod Moved
+pub mod Arrives
+pub mod StillOut
+pub mod AllIn
+pub mod Settles
+pub mod Receivers
+pub mod Ending
+pub mod Heights
+pub mod Polling
+pub mod Theorems

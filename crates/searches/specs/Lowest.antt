@@ -1,0 +1,46 @@
+-- Document 01, "Program `line`": turns taken "lowest waiting strand first", until nothing waits.
+use mathlib.Core.Bool.{true, false}
+use mathlib.Core.List.{List}
+use Prim.Native.Nat.{ℕ, zero, suc, _+_, _-_, _*_}
+use lib.ListN.{replicate}
+use Rattle.book.specs.declared.Shape.{Shape}
+use Rattle.book.specs.declared.Process.{Process}
+use Rattle.book.specs.Bounds.{mostProcesses}
+use Rattle.line_theory.specs.Sets.{View, passed}
+use Rattle.line_theory.specs.Search.{line}
+use Rattle.line_theory.specs.OfTables.{viewOf}
+use Rattle.strands.specs.Strands.{roomForAll}
+use Rattle.session.specs.declared.Session.{Session}
+use Rattle.session.specs.Workers.{waitsOn}
+use Rattle.session.specs.Turns.{Ongoing, started, afterTurn}
+use Rattle.demand3.specs.Statement.{messageWaits}
+
+-- strands with room for sixteen processes, all zero
+abbrev pub strandsInside : List ℕ
+strandsInside = replicate (roomForAll mostProcesses) 0
+
+-- of so many processes from k on, the lowest on whose strand a message waits, numbered from 1; 0 for none
+unfoldable pub lowestFrom : ℕ → ℕ → Session → ℕ
+lowestFrom k zero session = 0
+lowestFrom k (suc left) session = elim (waitsOn session k) [ true ↦ suc k | false ↦ lowestFrom (suc k) left session ]
+
+abbrev pub lowestWaiting : Session → Process
+lowestWaiting session = record { 0 = lowestFrom 0 mostProcesses session }
+
+module _ (shape : Shape) (sent received : List ℕ) where
+  -- turns until nothing waits, so many at most
+  unfoldable pub toEnd : ℕ → Ongoing → Ongoing
+  toEnd zero o = o
+  toEnd (suc left) o =
+      elim (messageWaits (o .session)) [
+        | true ↦ toEnd left (afterTurn shape sent received o (lowestWaiting (o .session)))
+        | false ↦ o
+      ]
+
+  -- demand 3's bound
+  abbrev pub mostTurns : ℕ
+  mostTurns = let v : View = viewOf shape sent received in (shape .n - 1) * (2 * passed v (line v) + 5)
+
+  -- a session from its start to its end
+  unfoldable pub searched : Process → ℕ → Ongoing
+  searched initiator purpose = toEnd mostTurns (started shape sent received initiator purpose strandsInside)

@@ -1,0 +1,63 @@
+-- The call `search`: on accepted tables, from its start to its end. "Purposes 1 and 3 search"; with 2 everybody goes to checkpoint
+-- 1. The strands lie inside, so that question 17 is not asked.
+use mathlib.Core.Path.{_≡_}
+use mathlib.Core.Bool.{true, false}
+use mathlib.Core.List.{List}
+use Prim.Native.Nat.{ℕ, _<_}
+use lib.ListN.{length}
+use lib.Dec.{ltb, eqb}
+use Rattle.book.specs.declared.Shape.{Shape}
+use Rattle.book.specs.declared.Process.{Process}
+use Rattle.book.specs.declared.Checkpoint.{Checkpoint}
+use Rattle.book.specs.Bounds.{mostProcesses}
+use Rattle.book.specs.InTurn.{_then_, ask, unlessRefused}
+use Rattle.book.specs.Check.{tablesQuestion}
+use Rattle.line_theory.specs.Sets.{View, passed}
+use Rattle.line_theory.specs.Search.{line}
+use Rattle.line_theory.specs.OfTables.{viewOf}
+use Rattle.finder.specs.Line.{checkpoints, noLine}
+use Rattle.matrix.specs.Matrix.{pick}
+use Rattle.message.specs.Formed.{isNamed, isPurpose}
+use Rattle.session.specs.declared.Session.{Session}
+use Rattle.session.specs.Workers.{standsOn, hasEnded}
+use Rattle.demand3.specs.Statement.{messageWaits}
+use Rattle.searches.specs.Lowest.{searched}
+
+unfoldable pub searchQuestion : Shape → List ℕ → List ℕ → Process → ℕ → ℕ
+searchQuestion shape sent received initiator purpose =
+    tablesQuestion shape sent received
+    then λ _. ask 10 (isNamed (shape .n) (initiator .0))
+    then λ _. ask 11 (isPurpose purpose)
+
+-- where everybody ends: on the line, and with purpose 2 on checkpoint 1; absent processes have 0
+abbrev pub endOf : View → ℕ → ℕ → ℕ
+endOf v purpose j = pick (eqb purpose 2) (pick (ltb j (v .n)) 1 0) (line v j)
+
+module _ (shape : Shape) (sent received : List ℕ) (initiator : Process) (purpose : ℕ) where
+  abbrev pub refusal : ℕ
+  refusal = searchQuestion shape sent received initiator purpose
+
+  unfoldable pub setSearched : List Checkpoint
+  setSearched = unlessRefused refusal noLine (checkpoints (endOf (viewOf shape sent received) purpose))
+
+  unfoldable pub passedSearched : ℕ
+  passedSearched =
+      let v : View = viewOf shape sent received in
+      unlessRefused refusal 0 (passed v (endOf v purpose))
+
+  -- "counts in the result, proved equal to the definition's waits and turns": those of the session that ran
+  unfoldable pub roundsSearched : ℕ
+  roundsSearched = unlessRefused refusal 0 (searched shape sent received initiator purpose .session .machine .rounds)
+
+  unfoldable pub messagesSearched : ℕ
+  messagesSearched = unlessRefused refusal 0 (searched shape sent received initiator purpose .session .delivered)
+
+-- In the session that ran everybody has ended there, and nothing waits.
+abbrev pub SearchEnds : Type 0
+SearchEnds =
+    (shape : Shape) (sent received : List ℕ) (initiator : Process) (purpose : ℕ) → length (shape .counts) ≡ mostProcesses
+    → searchQuestion shape sent received initiator purpose ≡ 0
+    → let s : Session = searched shape sent received initiator purpose .session in
+    ((j : ℕ) → j < shape .n
+    → (hasEnded s j ≡ true) × (standsOn s j ≡ endOf (viewOf shape sent received) purpose j))
+    × (messageWaits s ≡ false)

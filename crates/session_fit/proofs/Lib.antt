@@ -1,0 +1,5 @@
+pub mod Few
+pub mod Read
+pub mod Holds
+pub mod Places
+pub mod Theorems

@@ -1,0 +1,4 @@
+pub mod Search
+pub mod Invariant
+pub mod Moves
+pub mod Facts

@@ -1,0 +1,5 @@
+pub mod Runs
+pub mod Slots
+pub mod Posted
+pub mod Laying
+pub mod Theorems
