@@ -184,7 +184,7 @@ module _ (pieces : Pieces) (b : Beginning) (a : IsAccepted b) (h : Searches b) (
             inr (p, with-room p (omega arith) waits room)
 
     ends :
-        mostDelivered b ≤ acceptedTurns (shapeIn b) (sentIn b) (receivedIn b) (atStart b) turns → (j : ℕ) → j < shapeIn b .n
+        mostDelivered (viewIn b) ≤ acceptedTurns (shapeIn b) (sentIn b) (receivedIn b) (atStart b) turns → (j : ℕ) → j < shapeIn b .n
         → (hasEnded (o .session) j ≡ true) × (standsOn (o .session) j ≡ line (viewIn b) j)
     ends many j small =
         let ended : hasEnded (o .session) j ≡ true =
@@ -200,5 +200,5 @@ module _ (pieces : Pieces) where
 
   -- where as many turns were accepted as can be
   pub comes-to-end : (b : Beginning) → IsAccepted b → Searches b → roomForAll (shapeIn b .n) ≤ length (b .strands)
-      → (turns : List Process) → mostDelivered b ≤ acceptedIn b turns → AtEnd b turns
+      → (turns : List Process) → mostDelivered (viewIn b) ≤ acceptedIn b turns → AtEnd b turns
   comes-to-end b a h room turns many j small = ends pieces b a h turns room many j small

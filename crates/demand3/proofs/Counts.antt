@@ -66,23 +66,24 @@ module _ (state : Initiator) (m : Message) where
       ∙ sym (not-not (allTo 16 (λ q. not (flag (tab 16 left) q))))
 
   module _ (own : Own) where
-    compared : (v : Initiator) → not (compare v .state .ended) ≡ someone (polled v)
+    -- when all reports are in, those are awaited next who are polled
+    compared : (v : Initiator) → someone (v .awaited) ≡ false → someone (compare v .state .awaited) ≡ someone (polled v)
     unfolding compare poll wait terminate
-    compared v = go (someone (polled v)) refl
+    compared v none = go (someone (polled v)) refl
       where
-        go : (b : Bool) → someone (polled v) ≡ b → not (compare v .state .ended) ≡ someone (polled v)
-        go true e = rw (compare, e)
-        go false e = rw (compare, e)
+        go : (b : Bool) → someone (polled v) ≡ b → someone (compare v .state .awaited) ≡ someone (polled v)
+        go true e = rw (compare, e) e
+        go false e = rw (compare, e) none
 
     -- a wait begins exactly when a poll is sent
-    polls : sendsPoll own state m ≡ (lastAwaited state (senderOf m) && not (step own state m .state .ended))
-    unfolding step
+    polls : sendsPoll own state m ≡ (lastAwaited state (senderOf m) && someone (step own state m .state .awaited))
+    unfolding step stepBack
     polls = go (someone (takeReport state m .awaited)) refl
       where
         go : (b : Bool) → someone (takeReport state m .awaited) ≡ b
-            → sendsPoll own state m ≡ (lastAwaited state (senderOf m) && not (step own state m .state .ended))
+            → sendsPoll own state m ≡ (lastAwaited state (senderOf m) && someone (step own state m .state .awaited))
         go true e = rw (last-taken, e)
-        go false e = rw (last-taken, step, e) (sym (compared (stepBack own (takeReport state m))))
+        go false e = rw (last-taken, step, e) (sym (compared (stepBack own (takeReport state m)) e))
 
 -- ---- a delivery
 
@@ -137,7 +138,7 @@ module _ (g : Search) (s : Session) (k : ℕ) (b : List ℕ) where
 
   -- with this delivery a wait begins
   abbrev begins : Waiting → Bool
-  begins w = isReport w && (lastAwaited (s .machine) k && not (does w .session .machine .ended))
+  begins w = (isReport w && lastAwaited (s .machine) k) && someone (does w .session .machine .awaited)
 
   pub rounds-does : (w : Waiting) → held (size g) s k b ≡ w
       → does w .session .machine .rounds ≡ s .machine .rounds + pick (begins w) 1 0
@@ -152,7 +153,7 @@ module _ (g : Search) (s : Session) (k : ℕ) (b : List ℕ) where
       rounds own (s .machine) m
       ∙ ap (λ (v : Bool). s .machine .rounds + pick v 1 0)
       (polls (s .machine) m own
-      ∙ ap (λ (q : ℕ). lastAwaited (s .machine) q && not (step own (s .machine) m .state .ended))
+      ∙ ap (λ (q : ℕ). lastAwaited (s .machine) q && someone (step own (s .machine) m .state .awaited))
       (report-sender (size g) s k b e))
 
   -- a report that is not the last makes the initiator send nothing

@@ -17,7 +17,7 @@ use Rattle.session.specs.declared.Session.{Session}
 use Rattle.session.specs.declared.Turned.{Turned}
 use Rattle.session.specs.Workers.{waitsOn}
 use Rattle.session.specs.Steps.{withPosted}
-use Rattle.session.specs.Turns.{Ongoing, isAccepted}
+use Rattle.session.specs.Turns.{Ongoing, turnAccepted}
 use Rattle.session_theory.proofs.Search.{Search, IsSearch, size, lead, isPart}
 use Rattle.session_theory.proofs.Invariant.{Placed, Laid, boxAfter}
 use Rattle.session_theory.proofs.Moves.{Passes, ToParticipants, Short}
@@ -189,7 +189,7 @@ module _ (pieces : Pieces) (g : Search) (is : IsSearch g) (Inv : Session → (�
       -- "The messages delivered are the accepted turns of the list, and the session's count equals their number."
       pub counted :
           nextOf g o p .session .delivered
-          ≡ s .delivered + pick (isAccepted (g .shape) (g .sent) (g .received) o p) 1 0
+          ≡ s .delivered + pick (turnAccepted (g .shape) (g .sent) (g .received) o p) 1 0
       counted =
           ⊎-elim
           (λ (r : Refused g o p).

@@ -10,5 +10,6 @@ pub mod Exactly
 pub mod Claims
 pub mod Reached
 pub mod Others
+pub mod Stays
 pub mod Restarting
 pub mod Theorems

@@ -1,6 +1,6 @@
 -- A list of turns: what each of them keeps and counts, all of them keep and count.
 use mathlib.Core.Path.{_≡_, refl, sym, ap, _∙_}
-use mathlib.Core.Bool.{Bool, true, not, _&&_}
+use mathlib.Core.Bool.{Bool, true, _&&_}
 use mathlib.Core.List.{List, [], _∷_}
 use mathlib.Core.Logic.{⊎-elim}
 use Prim.Native.Nat.{ℕ, _+_, _-_}
@@ -9,12 +9,13 @@ use borrow.Author.Tests.{eq-eqb, ne-eqb}
 use lib.ListN.{length}
 use Rattle.book.specs.declared.Process.{Process}
 use Rattle.matrix.specs.Matrix.{pick}
+use Rattle.machine.specs.Flags.{someone}
 use Rattle.initiator.specs.declared.Initiator.{Initiator}
 use Rattle.session.specs.declared.Session.{Session}
 use Rattle.session.specs.declared.Turned.{Turned}
 use Rattle.session.specs.Held.{held, isReport, waitingBytes}
 use Rattle.session.specs.Steps.{withPosted}
-use Rattle.session.specs.Turns.{Ongoing, afterTurns, isAccepted, acceptedTurns, waitBegins, waitsBegun}
+use Rattle.session.specs.Turns.{Ongoing, afterTurns, turnAccepted, acceptedTurns, waitBegins, waitsBegun}
 use Rattle.session_theory.proofs.Search.{Search, IsSearch, size}
 use Rattle.demand3.proofs.Pieces.{Pieces}
 use Rattle.demand3.proofs.Turn.{questionOf, nextOf, goes, Refused, named-part}
@@ -41,8 +42,8 @@ unfolding withPosted
 posted-machine t = refl
 
 -- where it is accepted, a wait begins by what the message does
-begins-if : (accepted report last ended : Bool) → accepted ≡ true → (accepted && (report && (last && not ended))) ≡ (report && (last && not ended))
-begins-if accepted report last ended h = rw h
+begins-if : (accepted begins : Bool) → accepted ≡ true → (accepted && begins) ≡ begins
+begins-if accepted begins h = rw h
 
 module _ (pieces : Pieces) (g : Search) (is : IsSearch g) (Inv : Session → (ℕ → List ℕ) → Type 0) (kept : Kept g Inv) where
   module _ (o : Ongoing) (holds : Holds g Inv o) (p : Process) where
@@ -71,13 +72,13 @@ module _ (pieces : Pieces) (g : Search) (is : IsSearch g) (Inv : Session → (�
             let machine : nextOf g o p .session .machine ≡ goes g s k b .session .machine =
             ap (λ (u : Session). u .machine) (m .accepted .session) ∙ posted-machine (goes g s k b) in
             let begins : waitBegins (g .shape) (g .sent) (g .received) o p
-            ≡ (reports b && (last && not (goes g s k b .session .machine .ended))) =
-            begins-if (isAccepted (g .shape) (g .sent) (g .received) o p)
-            (reports (waitingBytes (size g) s (o .strands) k)) last (nextOf g o p .session .machine .ended)
+            ≡ ((reports b && last) && someone (goes g s k b .session .machine .awaited)) =
+            begins-if (turnAccepted (g .shape) (g .sent) (g .received) o p)
+            ((reports (waitingBytes (size g) s (o .strands) k) && last) && someone (nextOf g o p .session .machine .awaited))
             (eq-eqb (questionOf g o p) 0 (m .accepted .question))
-            ∙ ap (λ (bytes : List ℕ). reports bytes && (last && not (nextOf g o p .session .machine .ended)))
+            ∙ ap (λ (bytes : List ℕ). (reports bytes && last) && someone (nextOf g o p .session .machine .awaited))
             (holds .laid k (named-part g p (m .named)) .bytes)
-            ∙ ap (λ (i : Initiator). reports b && (last && not (i .ended))) machine in
+            ∙ ap (λ (i : Initiator). (reports b && last) && someone (i .awaited)) machine in
             ap (λ (i : Initiator). i .rounds) machine
             ∙ rounds-does g s k b (held (size g) s k b) refl
             ∙ ap (λ (v : Bool). s .machine .rounds + pick v 1 0) (sym begins)

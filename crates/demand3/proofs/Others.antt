@@ -1,4 +1,4 @@
--- A turn leaves the other strands alone, unless it is the initiator's sending step.
+-- A turn leaves the other strands alone, unless it brings the initiator the last report, so that it sends.
 use mathlib.Core.Path.{_≡_, refl, sym, ap, _∙_}
 use mathlib.Core.Bool.{Bool, true, false, _&&_}
 use mathlib.Core.List.{List}
@@ -22,13 +22,14 @@ use Rattle.session.specs.declared.Waiting.the-variants.{Nothing, Asking, Ending
 use Rattle.session.specs.Workers.{initiatorOf, participantAt}
 use Rattle.session.specs.Held.{waitingBytes, held, isReport}
 use Rattle.session.specs.Steps.{onStrand, deliverDown}
-use Rattle.session.specs.Turns.{Ongoing}
+use Rattle.session.specs.Turns.{Ongoing, bringsLast}
 use Rattle.session_theory.proofs.Search.{Search, IsSearch, size, isPart}
+use Rattle.session_theory.proofs.Invariant.{boxAfter}
 use Rattle.session_theory.proofs.Facts.{part-within}
 use Rattle.session_theory.proofs.Moves.{goesDown}
 use Rattle.search_turns.proofs.Strand.{strand-goes, strand-silent, box-kept}
 use Rattle.demand3.specs.Statement.{atStart, after}
-use Rattle.demand3.specs.Beside.{initiatorSends, LeavesOthers}
+use Rattle.demand3.specs.Beside.{LeavesOthers}
 use Rattle.demand3.proofs.Pieces.{Pieces}
 use Rattle.demand3.proofs.Turn.{nextOf, goes, Refused, named-part}
 use Rattle.demand3.proofs.Kept.{Kept, Holds, Moved, turn}
@@ -68,7 +69,7 @@ module _ (g : Search) (s : Session) (k : ℕ) (b : List ℕ) (q : ℕ) (small : 
       strand-silent k (initiatorOf s) (participant.step own (participantAt s k) m .outgoing)
       (end-is-silent own (participantAt s k) m ends (initiatorOf s) lead) q small
 
-  -- nothing is sent to others but with the initiator's sending step
+  -- nothing is sent to others but with the last report
   does-other :
       (w : Waiting) → held (size g) s k b ≡ w → (isReport w && lastAwaited (s .machine) k) ≡ false → (q ≡ k → ⊥)
       → goesTo (does g s k b w .outgoing) q ≡ false
@@ -77,6 +78,18 @@ module _ (g : Search) (s : Session) (k : ℕ) (b : List ℕ) (q : ℕ) (small : 
   does-other Asking e none other = down-other other
   does-other Ending e none other = down-other other
   does-other Report e none other = report-silent g s k b e none q small
+
+-- the message on k's strand, these bytes, is the only report that is awaited still
+abbrev pub isLast : Search → Session → ℕ → List ℕ → Bool
+isLast g s k b = isReport (held (size g) s k b) && lastAwaited (s .machine) k
+
+-- otherwise its delivery leaves what waits on the other strands
+pub box-left :
+    (g : Search) (s : Session) (k : ℕ) (box : ℕ → List ℕ) (q : ℕ) → q < 16 → (q ≡ k → ⊥) → isLast g s k (box k) ≡ false
+    → boxAfter (goes g s k (box k) .outgoing) k box q ≡ box q
+box-left g s k box q small other none =
+    box-kept (goes g s k (box k) .outgoing) k box q
+    (does-other g s k (box k) q small (held (size g) s k (box k)) refl none other) other
 
 module _ (pieces : Pieces) (g : Search) (is : IsSearch g) (Inv : Session → (ℕ → List ℕ) → Type 0) (kept : Kept g Inv) where
   module _ (o : Ongoing) (holds : Holds g Inv o) (p : Process) (k : ℕ) where
@@ -87,7 +100,7 @@ module _ (pieces : Pieces) (g : Search) (is : IsSearch g) (Inv : Session → (�
     box = holds .box
 
     others-left :
-        isPart g k ≡ true → (k ≡ j → ⊥) → initiatorSends (size g) o p ≡ false
+        isPart g k ≡ true → (k ≡ j → ⊥) → bringsLast (g .shape) (g .sent) (g .received) o p ≡ false
         → waitingBytes (size g) (nextOf g o p .session) (nextOf g o p .strands) k
         ≡ waitingBytes (size g) (o .session) (o .strands) k
     others-left there other none =
@@ -100,15 +113,11 @@ module _ (pieces : Pieces) (g : Search) (is : IsSearch g) (Inv : Session → (�
             → waitingBytes (size g) (nextOf g o p .session) (nextOf g o p .strands) k
             ≡ waitingBytes (size g) (o .session) (o .strands) k
         moved m =
-            let silent : (isReport (held (size g) (o .session) j (box j)) && lastAwaited (o .session .machine) j) ≡ false =
-            ap
-            (λ (bytes : List ℕ). isReport (held (size g) (o .session) j bytes) && lastAwaited (o .session .machine) j)
-            (sym (holds .laid j (named-part g p (m .named)) .bytes))
+            let silent : isLast g (o .session) j (box j) ≡ false =
+            ap (λ (bytes : List ℕ). isLast g (o .session) j bytes) (sym (holds .laid j (named-part g p (m .named)) .bytes))
             ∙ none in
             m .laid k there .bytes
-            ∙ box-kept (goes g (o .session) j (box j) .outgoing) j box k
-            (does-other g (o .session) j (box j) k (part-within g is k there) (held (size g) (o .session) j (box j)) refl silent other)
-            other
+            ∙ box-left g (o .session) j box k (part-within g is k there) other silent
             ∙ sym (holds .laid k there .bytes)
 
 module _ (pieces : Pieces) where

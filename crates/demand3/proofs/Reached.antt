@@ -10,11 +10,10 @@ use borrow.Author.Tests.{eq-eqb}
 use lib.ListN.{length}
 use Rattle.book.specs.declared.Shape.{Shape}
 use Rattle.book.specs.declared.Process.{Process}
-use Rattle.line_theory.specs.Search.{line}
 use Rattle.matrix.specs.Matrix.{pick}
 use Rattle.strands.specs.Strands.{roomForAll}
-use Rattle.session.specs.Workers.{standsOn, hasEnded}
-use Rattle.session.specs.Turns.{Ongoing, afterTurn, afterTurns, isAccepted, acceptedTurns}
+use Rattle.session.specs.Workers.{hasEnded}
+use Rattle.session.specs.Turns.{Ongoing, afterTurn, afterTurns, turnAccepted, acceptedTurns}
 use Rattle.demand3.specs.Statement.{
   Beginning,
   shapeIn,
@@ -37,7 +36,7 @@ accepted-more :
     (shape : Shape) (sent received : List ℕ) (turns : List Process) (o : Ongoing) (p : Process)
     → acceptedTurns shape sent received o (turns ++ (p ∷ []))
     ≡ acceptedTurns shape sent received o turns
-    + pick (isAccepted shape sent received (afterTurns shape sent received o turns) p) 1 0
+    + pick (turnAccepted shape sent received (afterTurns shape sent received o turns) p) 1 0
 unfolding acceptedTurns afterTurns
 accepted-more shape sent received [] o p = omega arith
 accepted-more shape sent received (q ∷ turns) o p =
@@ -64,7 +63,7 @@ module _
       subst (λ (l : List Process). AtEnd b l) (sym (append-nil turns)) e,
     )
 
-    reached : (left : ℕ) (turns : List Process) → mostDelivered b ≤ accepted turns + left → Reached turns
+    reached : (left : ℕ) (turns : List Process) → mostDelivered (viewIn b) ≤ accepted turns + left → Reached turns
     reached zero turns many = at-once turns (comes-to-end pieces b a h room turns (omega arith))
     reached (suc left) turns many =
         ⊎-elim
@@ -77,7 +76,7 @@ module _
       where
         one-more : (p : Process) → nextQuestion b turns p ≡ 0 → accepted (turns ++ (p ∷ [])) ≡ accepted turns + 1
         one-more p e =
-            let counted : _≡_ {A = ℕ} (pick (isAccepted (shapeIn b) (sentIn b) (receivedIn b) (after b turns) p) 1 0) 1 =
+            let counted : _≡_ {A = ℕ} (pick (turnAccepted (shapeIn b) (sentIn b) (receivedIn b) (after b turns) p) 1 0) 1 =
             rw (eq-eqb (nextQuestion b turns p) 0 e) in
             omega (arith, accepted-more (shapeIn b) (sentIn b) (receivedIn b) turns (atStart b) p, counted)
 
@@ -85,13 +84,13 @@ module _
         go p e r = (
           p ∷ r .0,
           subst (λ (l : List Process). accepted l ≡ accepted turns + length (p ∷ r .0)) (append-assoc turns (p ∷ []) (r .0))
-          (omega (arith, r .1, one-more p e)),
+              (omega (arith, r .1, one-more p e)),
           subst (λ (l : List Process). AtEnd b l) (append-assoc turns (p ∷ []) (r .0)) (r .2),
         )
 
 module _ (pieces : Pieces) where
   pub end-is-reached : EndIsReached
   end-is-reached b a h room turns =
-      let r = reached pieces b a h room (mostDelivered b) turns (omega arith) in
+      let r = reached pieces b a h room (mostDelivered (viewIn b)) turns (omega arith) in
       let all = demand-3 pieces b a h (turns ++ r .0) in
       (r .0, r .1, omega (arith, r .1, all .few-delivered, all .delivered), r .2)

@@ -1,6 +1,6 @@
 -- What a list of turns begins with: an accepted start on accepted tables.
-use mathlib.Core.Path.{_≡_, refl, ap, _∙_}
-use mathlib.Core.Bool.{Bool, true, false}
+use mathlib.Core.Path.{_≡_, refl, sym, ap, _∙_}
+use mathlib.Core.Bool.{Bool, true, false, not}
 use mathlib.Core.List.{List}
 use mathlib.Core.Logic.{_⊎_, inl, inr}
 use Prim.Native.Nat.{ℕ, _-_}
@@ -14,6 +14,7 @@ use Rattle.book.specs.InTurn.{_then_, ask}
 use Rattle.book.specs.Check.{tablesQuestion}
 use Rattle.book.specs.Read.{bookRead}
 use Rattle.book.specs.Tables.{countsOf}
+use Rattle.line_theory.proofs.Over.{all-out, getD-tab}
 use Rattle.book.proofs.Questions.{then-none, asked-yes, kept-passed}
 use Rattle.round_trips.proofs.Zeros.{length-padded}
 use Rattle.round_trips.proofs.ToTables.{length-countsOf}
@@ -24,7 +25,7 @@ use Rattle.matrix.specs.Matrix.{pick}
 use Rattle.message.specs.Formed.{isNamed, isPurpose}
 use Rattle.mail.specs.Outgoing.{bytesTo}
 use Rattle.machine.specs.Own.{Own}
-use Rattle.machine.specs.Flags.{someone, participants}
+use Rattle.machine.specs.Flags.{flag, someone, participants, nobody}
 use Rattle.initiator.specs.Begin.{wait, idle, search, begin}
 use Rattle.exchange_laws.specs.Ends.{isSearch}
 use Rattle.strands.specs.Strands.{haveRoom, posted}
@@ -60,19 +61,23 @@ module _ (tables : ℕ) (named purposed room : Bool) where
       let c = then-none (ask 11 purposed) (λ _. ask 17 room) (b .1) in
       (asked-yes 9 named (b .0), asked-yes 10 purposed (c .0), asked-yes 16 room (c .1))
 
--- a search's first round is counted unless it has ended with the start
+none-awaited : someone nobody ≡ false
+unfolding someone
+none-awaited = ap not (all-out 16 (λ p. not (flag nobody p)) (λ p h. ap not (getD-tab 16 (λ q. false) p false h)))
+
+-- a search's first round is counted where somebody is awaited after the start
 first-round : (own : Own) (me : Process) (purpose : ℕ) → eqb purpose 2 ≡ false
-    → begin own me purpose .state .rounds ≡ pick (begin own me purpose .state .ended) 0 1
+    → begin own me purpose .state .rounds ≡ pick (someone (begin own me purpose .state .awaited)) 1 0
 unfolding begin search wait idle
 first-round own me purpose other = go (someone (participants (own .n) (me .0 - 1))) refl
   where
     go : (v : Bool) → someone (participants (own .n) (me .0 - 1)) ≡ v
-        → begin own me purpose .state .rounds ≡ pick (begin own me purpose .state .ended) 0 1
-    go true e = rw (begin, other, search, e)
-    go false e = rw (begin, other, search, e)
+        → begin own me purpose .state .rounds ≡ pick (someone (begin own me purpose .state .awaited)) 1 0
+    go true e = rw (begin, other, search, e) (sym (ap (λ (v : Bool). pick v 1 0) e))
+    go false e = rw (begin, other, search, e) (sym (ap (λ (v : Bool). pick v 1 0) none-awaited))
 
 one-round : (g : Search) → eqb (g .purpose) 2 ≡ false
-    → withPosted (begins g) .machine .rounds ≡ pick (withPosted (begins g) .machine .ended) 0 1
+    → withPosted (begins g) .machine .rounds ≡ pick (someone (withPosted (begins g) .machine .awaited)) 1 0
 unfolding withPosted begun
 one-round g other = first-round (ownIn g (lead g)) (g .initiator) (g .purpose) other
 

@@ -6,11 +6,12 @@ use Rattle.search_turns.proofs.Theorems.{down-goes, end-goes}
 use Rattle.search_rounds.proofs.Theorems.{up-goes}
 use Rattle.demand3.proofs.Claims as claims
 use Rattle.demand3.proofs.Others as others
+use Rattle.demand3.proofs.Stays as stays
 use Rattle.demand3.proofs.Restarting as restarting
 use Rattle.demand3.proofs.Pieces.{Pieces}
 use Rattle.demand3.proofs.Reached as ends
 use Rattle.demand3.specs.Statement.{Demand3}
-use Rattle.demand3.specs.Beside.{GoesOn, EndIsReached, LeavesOthers, RestartEnds}
+use Rattle.demand3.specs.Beside.{GoesOn, EndIsReached, StaysUntilDelivered, LeavesOthers, RestartEnds}
 
 pieces : Pieces
 pieces =
@@ -36,6 +37,9 @@ goes-on = claims.goes-on pieces
 
 pub end-is-reached : EndIsReached
 end-is-reached = ends.end-is-reached pieces
+
+pub stays-until-delivered : StaysUntilDelivered
+stays-until-delivered = stays.stays-until-delivered pieces
 
 pub leaves-others : LeavesOthers
 leaves-others = others.leaves-others pieces

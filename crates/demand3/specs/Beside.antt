@@ -1,37 +1,19 @@
 -- What users rely on beside demand 3: a search comes to its end, a turn leaves the other strands alone, and what a bare restart
 -- comes to.
 use mathlib.Core.Path.{_≡_}
-use mathlib.Core.Bool.{Bool, true, false, not, _&&_, _||_}
+use mathlib.Core.Bool.{true, false}
 use mathlib.Core.List.{List, _++_}
 use mathlib.Core.Logic.{_⊎_}
 use Prim.Native.Nat.{ℕ, _+_, _-_, _≤_, _<_}
 use lib.ListN.{length}
-use lib.Dec.{eqb}
 use Rattle.book.specs.declared.Process.{Process}
-use Rattle.book.specs.Bounds.{mostProcesses}
-use Rattle.line_theory.specs.Over.{allTo}
 use Rattle.line_theory.specs.Search.{line}
 use Rattle.machine.specs.Named.{isParticipant}
-use Rattle.machine.specs.Flags.{flag}
 use Rattle.strands.specs.Strands.{roomForAll}
-use Rattle.session.specs.declared.Session.{Session}
-use Rattle.session.specs.Workers.{standsOn, hasEnded, waitsOn, initiatorOf}
-use Rattle.session.specs.Held.{waitingBytes, held, isReport}
-use Rattle.session.specs.Turns.{Ongoing, afterTurn, acceptedTurns}
-use Rattle.demand3.specs.Statement.{
-  Beginning,
-  shapeIn,
-  sentIn,
-  receivedIn,
-  viewIn,
-  IsAccepted,
-  Searches,
-  atStart,
-  after,
-  nextQuestion,
-  messageWaits,
-  mostDelivered,
-}
+use Rattle.session.specs.Workers.{standsOn, hasEnded, waitsOn}
+use Rattle.session.specs.Held.{waitingBytes}
+use Rattle.session.specs.Turns.{Ongoing, afterTurn, acceptedTurns, bringsLast}
+use Rattle.demand3.specs.Statement.{Beginning, shapeIn, sentIn, receivedIn, viewIn, IsAccepted, Searches, atStart, after, nextQuestion, messageWaits, mostDelivered}
 
 -- With room, some turn is accepted for as long as some worker has not ended,
 abbrev pub GoesOn : Type 0
@@ -56,24 +38,30 @@ EndIsReached =
     (b : Beginning) → IsAccepted b → Searches b → roomForAll (shapeIn b .n) ≤ length (b .strands) → (turns : List Process)
     → (more : List Process)
     × (acceptedIn b (turns ++ more) ≡ acceptedIn b turns + length more)
-    × (acceptedIn b turns + length more ≤ mostDelivered b)
+    × (acceptedIn b turns + length more ≤ mostDelivered (viewIn b))
     × AtEnd b (turns ++ more)
 
--- the initiator sends with this turn: it delivers the only report that is awaited still
-abbrev pub initiatorSends : ℕ → Ongoing → Process → Bool
-initiatorSends n o p =
-    let k : ℕ = p .0 - 1 in
-    isReport (held n (o .session) k (waitingBytes n (o .session) (o .strands) k))
-    && allTo mostProcesses (λ q. not (flag (o .session .machine .awaited) q) || eqb q k)
+-- "A message waits from the start or turn that writes it until the turn that delivers it": a turn on another strand leaves it.
+abbrev pub StaysUntilDelivered : Type 0
+StaysUntilDelivered =
+    (b : Beginning) → IsAccepted b → Searches b → (turns : List Process) (p : Process) (k : ℕ)
+    → let n : ℕ = shapeIn b .n in
+    let before : Ongoing = after b turns in
+    let next : Ongoing = afterTurn (shapeIn b) (sentIn b) (receivedIn b) before p in
+    (k ≡ p .0 - 1 → ⊥) → waitsOn (before .session) k ≡ true
+    → (waitsOn (next .session) k ≡ true)
+    × (waitingBytes n (next .session) (next .strands) k ≡ waitingBytes n (before .session) (before .strands) k)
 
--- A turn on p leaves what waits on every other participant's strand as it was, unless it is the initiator's sending step.
+-- Nothing new appears on another participant's strand either, unless the turn brings the initiator the last report, so that it
+-- sends.
 abbrev pub LeavesOthers : Type 0
 LeavesOthers =
     (b : Beginning) → IsAccepted b → Searches b → (turns : List Process) (p : Process) (k : ℕ)
     → let n : ℕ = shapeIn b .n in
     let before : Ongoing = after b turns in
     let next : Ongoing = afterTurn (shapeIn b) (sentIn b) (receivedIn b) before p in
-    isParticipant n (b .initiator .0 - 1) k ≡ true → (k ≡ p .0 - 1 → ⊥) → initiatorSends n before p ≡ false
+    isParticipant n (b .initiator .0 - 1) k ≡ true → (k ≡ p .0 - 1 → ⊥)
+    → bringsLast (shapeIn b) (sentIn b) (receivedIn b) before p ≡ false
     → waitingBytes n (next .session) (next .strands) k ≡ waitingBytes n (before .session) (before .strands) k
 
 -- Purpose 2: after n − 1 accepted turns everybody has ended on checkpoint 1, and nothing waits. A turn on a strand where a message

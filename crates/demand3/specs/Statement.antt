@@ -16,6 +16,7 @@ use Rattle.line_theory.specs.Sets.{View, IsSet, Consistent, passed}
 use Rattle.line_theory.specs.Search.{line}
 use Rattle.line_theory.specs.OfTables.{viewOf}
 use Rattle.matrix.specs.Matrix.{pick}
+use Rattle.machine.specs.Flags.{someone}
 use Rattle.strands.specs.Strands.{roomForAll}
 use Rattle.session.specs.declared.Session.{Session}
 use Rattle.session.specs.Workers.{standsOn, hasEnded, waitsOn}
@@ -75,16 +76,16 @@ abbrev pub someoneGoesOn : ℕ → Session → Bool
 someoneGoesOn n session = not (allTo n (hasEnded session))
 
 -- T: "the number of checkpoints newer than the line's, summed"
-abbrev pub newer : Beginning → ℕ
-newer b = passed (viewIn b) (line (viewIn b))
+abbrev pub newer : View → ℕ
+newer v = passed v (line v)
 
 -- "At most (n − 1) × (2T + 5) messages have been delivered."
-abbrev pub mostDelivered : Beginning → ℕ
-mostDelivered b = (shapeIn b .n - 1) * (2 * newer b + 5)
+abbrev pub mostDelivered : View → ℕ
+mostDelivered v = (v .n - 1) * (2 * newer v + 5)
 
--- the start is one of the calls with which a wait begins, unless nobody is there to wait for
+-- the start is one of the calls with which a wait begins, where somebody is awaited then
 abbrev pub startWaits : Beginning → ℕ
-startWaits b = pick (atStart b .session .machine .ended) 0 1
+startWaits b = pick (someone (atStart b .session .machine .awaited)) 1 0
 
 -- after the list
 pub record HoldsAfter (b : Beginning) (turns : List Process) : Type 0 where
@@ -93,12 +94,13 @@ pub record HoldsAfter (b : Beginning) (turns : List Process) : Type 0 where
   -- "The messages delivered are the accepted turns of the list, and the session's count equals their number."
   pub delivered :
       after b turns .session .delivered ≡ acceptedTurns (shapeIn b) (sentIn b) (receivedIn b) (atStart b) turns
-  pub few-delivered : after b turns .session .delivered ≤ mostDelivered b
+  pub few-delivered : after b turns .session .delivered ≤ mostDelivered (viewIn b)
   -- "A round is one wait of at least one report, counted as the wait begins."
   pub rounds :
       after b turns .session .machine .rounds
       ≡ startWaits b + waitsBegun (shapeIn b) (sentIn b) (receivedIn b) (atStart b) turns
-  pub few-rounds : after b turns .session .machine .rounds ≤ newer b + 2
+  -- (beside demand 3)
+  pub few-rounds : after b turns .session .machine .rounds ≤ newer (viewIn b) + 2
   -- "No worker stands on a checkpoint earlier than the line's,"
   pub none-below : (j : ℕ) → j < shapeIn b .n → line (viewIn b) j ≤ standsOn (after b turns .session) j
   -- "and every worker that has ended stands on the line's."

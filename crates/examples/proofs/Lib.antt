@@ -1,2 +1,6 @@
 pub mod Pairs
+pub mod Computing
+pub mod Once
+pub mod Sessions
+pub mod Room
 pub mod Starred

@@ -1,12 +1,14 @@
 -- Document 01, "Books and sessions tried": the starred examples, in one list, and what each of them claims of the
 -- definitions that the contracts cite.
 use mathlib.Core.Path.{_≡_}
+use mathlib.Core.Bool.{Bool, false}
 use mathlib.Core.List.{List, [], _∷_, _++_}
 use Prim.Native.Nat.{ℕ, _-_}
 use lib.ListN.{length, replicate, getD}
 use Rattle.varint.specs.declared.Numeral.the-variants as numeral
 use Rattle.varint.specs.Number.{encode, readNumber}
 use Rattle.book.specs.declared.Shape.{Shape}
+use Rattle.book.specs.declared.Process.{Process}
 use Rattle.book.specs.declared.Checkpoint.{Checkpoint}
 use Rattle.book.specs.declared.Answer.{Answer}
 use Rattle.book.specs.declared.Answer.the-variants as answer
@@ -20,6 +22,10 @@ use Rattle.consistency.specs.declared.SetAnswer.{SetAnswer}
 use Rattle.consistency.specs.declared.SetAnswer.the-variants as test
 use Rattle.consistency.specs.Set.{Tested}
 use Rattle.finder.specs.Line.{checkpoints, lineFound, passedFound}
+use Rattle.session.specs.declared.Session.{Session}
+use Rattle.session.specs.Workers.{standsOn}
+use Rattle.demand3.specs.Statement.{messageWaits, someoneGoesOn}
+use Rattle.searches.specs.Lowest.{searched}
 
 -- ---- what can be claimed
 
@@ -40,6 +46,8 @@ pub data Example : Type 0 where
   NotConsistent : List ℕ → List ℕ → ℕ → ℕ → Example
   -- in a book, this line is found, with T
   HasLine : List ℕ → List ℕ → ℕ → Example
+  -- in a book, a search by this initiator ends with all workers on this line, after so many rounds and messages
+  Searched : List ℕ → ℕ → List ℕ → ℕ → ℕ → Example
 
 -- the tables that a read is lent
 abbrev pub lent : List ℕ
@@ -65,6 +73,34 @@ found book =
     let received : List ℕ = receivedRead book lent lent in
     (answerTo (tablesQuestion shape sent received), lineFound shape sent received, passedFound shape sent received)
 
+-- what a session has come to
+pub record Outcome : Type 0 where
+  -- where each worker stands, absent processes zero
+  pub stand : List Checkpoint
+  pub rounds : ℕ
+  pub messages : ℕ
+  -- some worker has not ended; a message waits
+  pub goesOn : Bool
+  pub waits : Bool
+
+abbrev pub outcomeOf : ℕ → Session → Outcome
+outcomeOf n s =
+    record {
+      stand = checkpoints (standsOn s);
+      rounds = s .machine .rounds;
+      messages = s .delivered;
+      goesOn = someoneGoesOn n s;
+      waits = messageWaits s;
+    }
+
+-- what the session comes to that purpose 3 begins in the tables of a book, lowest waiting strand first: the session itself,
+-- turn by turn, on strands of bytes
+abbrev pub searchedIn : List ℕ → ℕ → Outcome
+searchedIn book initiator =
+    let shape : Shape = shapeRead book lent lent in
+    let by : Process = record { 0 = initiator } in
+    outcomeOf (shape .n) (searched shape (sentRead book lent lent) (receivedRead book lent lent) by 3 .session)
+
 abbrev pub holds : Example → Type 0
 holds (HasBytes n bytes) = encode n ≡ bytes
 holds (IsNumber bytes n) = readNumber groups largest bytes 0 ≡ numeral.Number n (length bytes)
@@ -77,6 +113,9 @@ holds (NotConsistent book set j p) =
     let shown : SetAnswer = test.AtFault (record { 0 = j }) (record { 0 = p }) in
     answers book set shown × ((answer : SetAnswer) → answers book set answer → answer ≡ shown)
 holds (HasLine book line passed) = found book ≡ (answer.Accepted, setOf line, passed)
+holds (Searched book initiator line rounds messages) =
+    searchedIn book initiator
+    ≡ record { stand = setOf line; rounds = rounds; messages = messages; goesOn = false; waits = false }
 
 -- all of a list hold
 infixr 5 _also_
@@ -113,8 +152,10 @@ starred =
     RefusedBy [] 3
     ∷ AcceptedAs (0x01 ∷ 0x03 ∷ []) 1 (3 ∷ [])
     ∷ HasLine (0x01 ∷ 0x03 ∷ []) (3 ∷ []) 0
+    ∷ Searched (0x01 ∷ 0x03 ∷ []) 1 (3 ∷ []) 0 0
     ∷ AcceptedAs (0x02 ∷ 0x01 ∷ 0x00 ∷ 0x00 ∷ 0x01 ∷ 0x00 ∷ 0x00 ∷ []) 2 (1 ∷ 1 ∷ [])
     ∷ HasLine (0x02 ∷ 0x01 ∷ 0x00 ∷ 0x00 ∷ 0x01 ∷ 0x00 ∷ 0x00 ∷ []) (1 ∷ 1 ∷ []) 0
+    ∷ Searched (0x02 ∷ 0x01 ∷ 0x00 ∷ 0x00 ∷ 0x01 ∷ 0x00 ∷ 0x00 ∷ []) 1 (1 ∷ 1 ∷ []) 1 3
     ∷ AcceptedAs k1 3 (2 ∷ 2 ∷ 2 ∷ [])
     ∷ HasReceived k1 1 2 2 4
     ∷ HasReceived k1 1 2 3 5
@@ -122,8 +163,11 @@ starred =
     ∷ HasSent k1 3 2 1 7
     ∷ NotConsistent k1 (2 ∷ 2 ∷ 2 ∷ []) 1 2
     ∷ HasLine k1 (1 ∷ 2 ∷ 2 ∷ []) 1
+    ∷ Searched k1 1 (1 ∷ 2 ∷ 2 ∷ []) 2 10
+    ∷ Searched k1 2 (1 ∷ 2 ∷ 2 ∷ []) 2 10
     ∷ AcceptedAs k6 3 (4 ∷ 4 ∷ 2 ∷ [])
     ∷ HasLine k6 (2 ∷ 1 ∷ 2 ∷ []) 5
+    ∷ Searched k6 2 (2 ∷ 1 ∷ 2 ∷ []) 3 12
     ∷ HasBytes 127 (0x7F ∷ [])
     ∷ IsNumber (0x7F ∷ []) 127
     ∷ HasBytes 128 (0x80 ∷ 0x01 ∷ [])

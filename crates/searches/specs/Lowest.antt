@@ -1,19 +1,17 @@
 -- Document 01, "Program `line`": turns taken "lowest waiting strand first", until nothing waits.
 use mathlib.Core.Bool.{true, false}
 use mathlib.Core.List.{List}
-use Prim.Native.Nat.{ℕ, zero, suc, _+_, _-_, _*_}
+use Prim.Native.Nat.{ℕ, zero, suc}
 use lib.ListN.{replicate}
 use Rattle.book.specs.declared.Shape.{Shape}
 use Rattle.book.specs.declared.Process.{Process}
 use Rattle.book.specs.Bounds.{mostProcesses}
-use Rattle.line_theory.specs.Sets.{View, passed}
-use Rattle.line_theory.specs.Search.{line}
 use Rattle.line_theory.specs.OfTables.{viewOf}
 use Rattle.strands.specs.Strands.{roomForAll}
 use Rattle.session.specs.declared.Session.{Session}
 use Rattle.session.specs.Workers.{waitsOn}
 use Rattle.session.specs.Turns.{Ongoing, started, afterTurn}
-use Rattle.demand3.specs.Statement.{messageWaits}
+use Rattle.demand3.specs.Statement.{messageWaits, mostDelivered}
 
 -- strands with room for sixteen processes, all zero
 abbrev pub strandsInside : List ℕ
@@ -37,10 +35,6 @@ module _ (shape : Shape) (sent received : List ℕ) where
         | false ↦ o
       ]
 
-  -- demand 3's bound
-  abbrev pub mostTurns : ℕ
-  mostTurns = let v : View = viewOf shape sent received in (shape .n - 1) * (2 * passed v (line v) + 5)
-
-  -- a session from its start to its end
+  -- a session from its start to its end, which demand 3's bound suffices for
   unfoldable pub searched : Process → ℕ → Ongoing
-  searched initiator purpose = toEnd mostTurns (started shape sent received initiator purpose strandsInside)
+  searched initiator purpose = toEnd (mostDelivered (viewOf shape sent received)) (started shape sent received initiator purpose strandsInside)

@@ -12,9 +12,9 @@ use Rattle.demand3.specs.Statement.{Beginning, after}
 use Rattle.searches.specs.Lowest.{strandsInside}
 
 -- the turns name these processes
-unfoldable pub named : List ℕ → List Process
-named [] = []
-named (p ∷ turns) = record { 0 = p } ∷ named turns
+unfoldable pub asProcesses : List ℕ → List Process
+asProcesses [] = []
+asProcesses (p ∷ turns) = record { 0 = p } ∷ asProcesses turns
 
 -- questions 1 to 9, then 10 and 11: the tables are filled after that, so that a refusal changes nothing
 unfoldable pub runQuestion : List ℕ → List ℕ → List ℕ → Process → ℕ → ℕ
@@ -49,4 +49,4 @@ module _ (bytes sent received : List ℕ) (initiator : Process) (purpose : ℕ) 
   receivedRun = unlessRefused question received (receivedRead bytes sent received)
 
   unfoldable pub sessionRun : List ℕ → Session
-  sessionRun turns = unlessRefused question noSession (after beginning (named turns) .session)
+  sessionRun turns = unlessRefused question noSession (after beginning (asProcesses turns) .session)

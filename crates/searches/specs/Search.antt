@@ -40,6 +40,7 @@ module _ (shape : Shape) (sent received : List ℕ) (initiator : Process) (purpo
   unfoldable pub setSearched : List Checkpoint
   setSearched = unlessRefused refusal noLine (checkpoints (endOf (viewOf shape sent received) purpose))
 
+  -- how many checkpoints are newer than those: T, but with purpose 2
   unfoldable pub passedSearched : ℕ
   passedSearched =
       let v : View = viewOf shape sent received in

@@ -31,7 +31,7 @@ startQuestion shape sent received initiator purpose strands =
     then λ _. ask 17
     (haveRoom (shape .n) (initiator .0 - 1) (begun shape sent received initiator purpose .outgoing) strands)
 
--- beside a refusal: all zero
+-- beside a refusal: all zero (and the initiator ended)
 unfoldable pub noSession : Session
 noSession =
     record {

@@ -53,6 +53,7 @@ isAwaited Ending = false
 isAwaited Report = true
 isAwaited Stray = false
 
+-- "no termination waits"; a restart's invitation counts too, but then the initiator does not wait
 abbrev pub isEnding : Waiting → Bool
 isEnding Nothing = false
 isEnding Asking = false

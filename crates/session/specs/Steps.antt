@@ -1,9 +1,8 @@
--- Document 01, "Session": beginning a search, and delivering a message, from the machines' stages; what a call then puts on
--- the strands is messages as data. Processes count from 0.
-use mathlib.Core.Bool.{Bool}
+-- Document 01, "Session": beginning a search, and delivering a message, from the machines' steps; what a call then puts on
+-- the strands is messages as data, addressed by strand. Processes count from 0.
 use mathlib.Core.List.{List}
 use Prim.Native.Nat.{ℕ, suc, _+_, _-_}
-use lib.ListN.{set, replicate}
+use lib.ListN.{set}
 use Rattle.book.specs.declared.Shape.{Shape}
 use Rattle.book.specs.declared.Process.{Process}
 use Rattle.book.specs.Bounds.{mostProcesses}

@@ -9,7 +9,7 @@ use Rattle.book.specs.declared.Process.{Process}
 use Rattle.book.specs.Bounds.{mostProcesses}
 use Rattle.line_theory.specs.Over.{allTo}
 use Rattle.matrix.specs.Matrix.{pick}
-use Rattle.machine.specs.Flags.{flag}
+use Rattle.machine.specs.Flags.{flag, someone}
 use Rattle.session.specs.declared.Session.{Session}
 use Rattle.session.specs.Held.{waitingBytes, held, isReport}
 use Rattle.session.specs.Calls.{sessionStarted, strandsStarted, turnQuestion, sessionAfter, strandsAfter}
@@ -41,24 +41,26 @@ module _ (shape : Shape) (sent received : List ℕ) where
   afterTurns o [] = o
   afterTurns o (p ∷ turns) = afterTurns (afterTurn o p) turns
 
-  abbrev pub isAccepted : Ongoing → Process → Bool
-  isAccepted o p = eqb (turnQuestion shape sent received (o .session) p (o .strands)) 0
+  abbrev pub turnAccepted : Ongoing → Process → Bool
+  turnAccepted o p = eqb (turnQuestion shape sent received (o .session) p (o .strands)) 0
 
   -- "The messages delivered are the accepted turns of the list"
   unfoldable pub acceptedTurns : Ongoing → List Process → ℕ
   acceptedTurns o [] = 0
-  acceptedTurns o (p ∷ turns) = pick (isAccepted o p) 1 0 + acceptedTurns (afterTurn o p) turns
+  acceptedTurns o (p ∷ turns) = pick (turnAccepted o p) 1 0 + acceptedTurns (afterTurn o p) turns
 
-  -- "A round is one wait of at least one report, counted as the wait begins": with an accepted turn one begins when it
-  -- delivers the only report that is awaited still, and the initiator does not end then
-  abbrev pub waitBegins : Ongoing → Process → Bool
-  waitBegins o p =
+  -- the turn that names p would deliver the only report that is awaited still
+  abbrev pub bringsLast : Ongoing → Process → Bool
+  bringsLast o p =
       let k : ℕ = p .0 - 1 in
       let session : Session = o .session in
-      isAccepted o p
-      && (isReport (held (shape .n) session k (waitingBytes (shape .n) session (o .strands) k))
-      && (allTo mostProcesses (λ q. not (flag (session .machine .awaited) q) || eqb q k)
-      && not (afterTurn o p .session .machine .ended)))
+      isReport (held (shape .n) session k (waitingBytes (shape .n) session (o .strands) k))
+      && allTo mostProcesses (λ q. not (flag (session .machine .awaited) q) || eqb q k)
+
+  -- "A round is one wait of at least one report, counted as the wait begins": with an accepted turn one begins when it brings
+  -- the last report, and somebody is awaited then
+  abbrev pub waitBegins : Ongoing → Process → Bool
+  waitBegins o p = turnAccepted o p && (bringsLast o p && someone (afterTurn o p .session .machine .awaited))
 
   -- the turns of a list with which a wait begins
   unfoldable pub waitsBegun : Ongoing → List Process → ℕ

@@ -28,14 +28,15 @@ pub struct Session {
     pub delivered: u32,
 }
 
-// A session whose machines have taken a step, and what the step puts on each process's strand.
+// A session whose machines have taken a step, and what the step puts on strands: here a message is addressed by the participant
+// whose strand it is put on, also where it goes to the initiator.
 pub struct Turned {
     pub session: Session,
     pub outgoing: Outgoing,
 }
 
 // The answer of `start` and `turn`: the session afterwards. A refused turn hands back the session that it was given; beside a
-// refused start all is zero.
+// refused start all is zero (and the initiator ended).
 pub struct SessionAnswer {
     pub answer: Answer,
     pub session: Session,

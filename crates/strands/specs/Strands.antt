@@ -13,9 +13,13 @@ use Rattle.matrix.specs.Matrix.{pick}
 use Rattle.mail.specs.declared.Outgoing.{Outgoing}
 use Rattle.mail.specs.Outgoing.{goesTo, bytesTo}
 
--- the longest message: four numbers of one byte, and n − 1 pairs of a process of one byte and a counter
+-- a message's first four numbers, of one byte each
+abbrev pub headSize : ℕ
+headSize = 4
+
+-- the longest message: these, and n − 1 pairs of a process of one byte and a counter
 abbrev pub slotSize : ℕ → ℕ
-slotSize n = 4 + (n - 1) * (1 + groups)
+slotSize n = headSize + (n - 1) * (1 + groups)
 
 -- where process k's slot begins: the initiator has none
 abbrev pub strandStart : ℕ → ℕ → ℕ → ℕ
@@ -33,7 +37,8 @@ lengthOn lengths k = getD lengths k 0
 unfoldable pub strandBytes : ℕ → ℕ → List ℕ → List ℕ → ℕ → List ℕ
 strandBytes n initiator lengths strands k = take (lengthOn lengths k) (drop (strandStart n initiator k) strands)
 
--- question 17, asked of each message that a call puts on a strand: "Do the bytes to be written fit the buffer?"
+-- question 17, asked of each message that a call puts on a strand: "Do the bytes to be written fit the buffer?" Messages are
+-- addressed by strand here: the one `to` k is put on k's strand.
 unfoldable pub haveRoom : ℕ → ℕ → Outgoing → List ℕ → Bool
 haveRoom n initiator o strands =
     allTo mostProcesses

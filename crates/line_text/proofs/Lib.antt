@@ -1,0 +1,4 @@
+pub mod Decimal
+pub mod Grows
+pub mod Printed
+pub mod Puts

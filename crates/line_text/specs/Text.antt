@@ -1,0 +1,57 @@
+-- Document 01, "Program `line`": the text that it prints, as bytes.
+use mathlib.Core.Path.{_≡_}
+use mathlib.Core.Bool.{true, false}
+use mathlib.Core.List.{List, [], _∷_, _++_}
+use Prim.Native.Nat.{ℕ, zero, suc, _+_, _/_, _%_, _≤_}
+use lib.ListN.{length, take, getD}
+use lib.Dec.{ltb}
+use Rattle.book.specs.declared.Checkpoint.{Checkpoint}
+use Rattle.line_text.specs.declared.Text.{Text}
+use Rattle.line_text.specs.Ascii.{ascii}
+
+-- the digits of n, without leading zeros, in at most `fuel` digits
+unfoldable pub digitsOf : ℕ → ℕ → List ℕ
+digitsOf zero n = []
+digitsOf (suc fuel) n =
+    elim (ltb n 10) [ true ↦ (48 + n) ∷ [] | false ↦ digitsOf fuel (n / 10) ++ ((48 + n % 10) ∷ []) ]
+
+-- a number of at most 64 bits: twenty digits are the most
+unfoldable pub decimal : ℕ → List ℕ
+decimal n = digitsOf 20 n
+
+-- a space and the number
+unfoldable pub spaced : ℕ → List ℕ
+spaced n = ascii " " ++ decimal n
+
+-- a line: a word, a space and a number
+unfoldable pub row : List ℕ → ℕ → List ℕ
+row word n = word ++ spaced n ++ ascii "\n"
+
+-- a space and the checkpoint number of each of the first n processes
+unfoldable pub checkpoints : ℕ → List Checkpoint → List ℕ
+checkpoints zero set = []
+checkpoints (suc j) set = checkpoints j set ++ spaced (getD set j (record { 0 = 0 }) .0)
+
+-- the number of processes, and the line
+unfoldable pub lineFound : ℕ → List Checkpoint → List ℕ
+lineFound n set = row (ascii "processes") n ++ ascii "line" ++ checkpoints n set ++ ascii "\n"
+
+-- an accepted book: its five lines
+unfoldable pub foundText : ℕ → List Checkpoint → ℕ → ℕ → ℕ → List ℕ
+foundText n set passed rounds messages =
+    lineFound n set ++ row (ascii "passed") passed ++ row (ascii "rounds") rounds ++ row (ascii "messages") messages
+
+-- a refused book
+unfoldable pub refusedText : ℕ → List ℕ
+refusedText question = row (ascii "refused") question
+
+-- a text with `more` bytes behind those that it had
+pub record Grown (before after : Text) (more : List ℕ) : Type 0 where
+  pub first : take (after .len) (after .bytes) ≡ take (before .len) (before .bytes) ++ more
+  pub long : after .len ≡ before .len + length more
+
+-- a text of just these bytes, which lie within the array
+pub record Holds (text : Text) (bytes : List ℕ) : Type 0 where
+  pub first : take (text .len) (text .bytes) ≡ bytes
+  pub long : text .len ≡ length bytes
+  pub inside : text .len ≤ 512
