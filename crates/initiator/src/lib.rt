@@ -81,7 +81,7 @@ fn idle(
 }
 
 // Beside a refusal.
-fn no_initiator() -> Initiator
+pub fn no_initiator() -> Initiator
     ensures { λ r. ⌜ r ≡ noInitiator ⌝ }
 {
     let matrix = [Count(0); 256];
@@ -191,7 +191,7 @@ impl Initiator {
     }
 
     // Questions 15 and 16 of a message that is formed.
-    fn awaited_question(self, message: Message) -> u32
+    pub fn awaited_question(self, message: Message) -> u32
         requires { ⌜ (1 ≤ message .head .sender .0) × (message .head .sender .0 ≤ 16) ⌝ }
         requires { ⌜ 1 ≤ self .n ⌝ }
         ensures { λ r. ⌜ r ≡ (ask 15 (awaits self message) then λ _. ask 16 (allLower (message .news) (row (self .matrix) (senderOf message)))) ⌝ }
@@ -313,7 +313,7 @@ impl Initiator {
 }
 
 // Questions 10 and 11 of a beginning.
-fn begin_question(n: usize, me: Process, purpose: u64) -> u32
+pub fn begin_question(n: usize, me: Process, purpose: u64) -> u32
     ensures { λ r. ⌜ r ≡ (ask 10 (isNamed n (me .0)) then λ _. ask 11 (isPurpose purpose)) ⌝ }
 {
     if !message::is_named(n, me.0) {
@@ -325,8 +325,8 @@ fn begin_question(n: usize, me: Process, purpose: u64) -> u32
     0
 }
 
-// A search, or a bare restart with purpose 2.
-fn first_step(
+// A search, or a bare restart with purpose 2. Inner: a process of accepted tables.
+pub fn first_step(
     rows: TableRows,
     sent: &[Counter],
     received: &[Counter],

@@ -117,7 +117,7 @@ pub fn message_to(outgoing: Outgoing, p: usize) -> Message
 }
 
 // How many bytes process p gets.
-fn size_to(outgoing: Outgoing, p: usize) -> usize
+pub fn size_to(outgoing: Outgoing, p: usize) -> usize
     requires { ⌜ p < 16 ⌝ }
     ensures { λ r. ⌜ r ≡ length (bytesTo outgoing p) ⌝ }
     ensures { λ r. ⌜ r ≤ 280 ⌝ }
@@ -143,7 +143,7 @@ fn mail_size(outgoing: Outgoing) -> usize
 }
 
 // The message to process p at the start of a buffer, if it gets one; it returns the length.
-fn put_to(outgoing: Outgoing, p: usize, out: &mut [u8]) -> usize
+pub fn put_to(outgoing: Outgoing, p: usize, out: &mut [u8]) -> usize
     requires { ⌜ (p < 16) × (length (bytesTo outgoing p) ≤ length (now out)) ⌝ }
     ensures { λ r. ⌜ r ≡ length (bytesTo outgoing p) ⌝ }
     ensures { λ _. ⌜ now (out .exit) ≡ sets (now (out .entry)) 0 (bytesTo outgoing p) ⌝ }

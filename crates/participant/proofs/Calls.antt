@@ -6,6 +6,7 @@ use Prim.Native.Nat.{ℕ, _-_, _≤_}
 use native.Mathlib.Omega.{arith}
 use Rattle.book.specs.declared.Answer.{Answer}
 use Rattle.book.specs.declared.Answer.the-variants.{Accepted, Refused}
+use Rattle.book.specs.declared.Checkpoint.{Checkpoint}
 use Rattle.book.specs.declared.Count.{Count}
 use Rattle.book.specs.declared.Process.{Process}
 use Rattle.book.specs.declared.Shape.{Shape}
@@ -27,11 +28,34 @@ use Rattle.participant.specs.declared.ParticipantAnswer.{ParticipantAnsw
 use Rattle.participant.specs.declared.ParticipantStep.{ParticipantStep}
 use Rattle.participant.specs.declared.Stage.the-variants.{Before}
 use Rattle.participant.specs.Fits.{fits}
-use Rattle.participant.specs.Step.{first, awaits, step}
+use Rattle.participant.specs.Step.{firstOf, first, awaits, step}
 use Rattle.participant.specs.Calls.{noParticipant, firstQuestion, firstState, ownOfState, readBy, stateQuestion, messageQuestion, stepOn, receiveQuestion, stateAfter, lengthsAfter, bytesAfter}
 use Rattle.participant.proofs.Fitting.{named-there}
 
 -- ---- a participant's first state
+
+pub before-is : (n : ℕ) (newest : Checkpoint) (me initiator : Process) (purpose : ℕ) (row : List Count) → row ≡ notKnownRow n (me .0 - 1)
+    → _≡_ {A = Participant} (record {
+      n = n;
+      me = me;
+      initiator = initiator;
+      purpose = purpose;
+      stage = Before;
+      candidate = newest;
+      row = row;
+      column = row;
+    }) (firstOf n (newest .0) me initiator purpose)
+before-is n newest me initiator purpose row e =
+    λ i. record {
+      n = n;
+      me = me;
+      initiator = initiator;
+      purpose = purpose;
+      stage = Before;
+      candidate = newest;
+      row = e i;
+      column = e i;
+    }
 
 module _ (shape : Shape) (sent received : List ℕ) (me initiator : Process) (purpose : ℕ) where
   abbrev tables : ℕ
@@ -74,32 +98,13 @@ module _ (shape : Shape) (sent received : List ℕ) (me initiator : Process) (pu
     pub first-no-purpose : (state : Participant) → named ≡ true → isPurpose purpose ≡ false → state ≡ noParticipant → First (Refused 11) state
     first-no-purpose state h l s = refusal 11 state (past-names h ∙ ask-no 11 (isPurpose purpose) l) (λ z. absurd (omega arith)) s
 
-    pub first-begun : (row : List Count) → named ≡ true → isPurpose purpose ≡ true → row ≡ notKnownRow (shape .n) (me .0 - 1)
-        → First Accepted (record {
-          n = shape .n;
-          me = me;
-          initiator = initiator;
-          purpose = purpose;
-          stage = Before;
-          candidate = record { 0 = count shape (me .0 - 1) };
-          row = row;
-          column = row;
-        })
+    pub first-begun : (state : Participant) → named ≡ true → isPurpose purpose ≡ true
+        → state ≡ firstOf (shape .n) (count shape (me .0 - 1)) me initiator purpose → First Accepted state
     unfolding firstState
-    first-begun row h l e =
+    first-begun state h l e =
         let zero-now : asked ≡ 0 = past-names h ∙ ask-yes 11 (isPurpose purpose) l in (
           sym (answer-passed asked zero-now),
-          (λ i. record {
-            n = shape .n;
-            me = me;
-            initiator = initiator;
-            purpose = purpose;
-            stage = Before;
-            candidate = record { 0 = count shape (me .0 - 1) };
-            row = e i;
-            column = e i;
-          })
-              ∙ sym (kept-passed asked noParticipant (first (ownOf shape sent received (me .0 - 1)) me initiator purpose) zero-now),
+          e ∙ sym (kept-passed asked noParticipant (first (ownOf shape sent received (me .0 - 1)) me initiator purpose) zero-now),
         )
 
 -- ---- a participant receives a message

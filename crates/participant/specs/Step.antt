@@ -14,19 +14,22 @@ use Rattle.participant.specs.declared.Stage.{Stage}
 use Rattle.participant.specs.declared.Stage.the-variants.{Before, Searching, Ended}
 
 -- "Every state names its process, the initiator and the purpose from the start." "Each process begins at its newest
--- checkpoint." Before the invitation nothing is known.
-abbrev pub first : Own → Process → Process → ℕ → Participant
-first own me initiator purpose =
+-- checkpoint." Before the invitation nothing is known. Of n processes, `newest` being its newest checkpoint:
+abbrev pub firstOf : ℕ → ℕ → Process → Process → ℕ → Participant
+firstOf n newest me initiator purpose =
     record {
-      n = own .n;
+      n = n;
       me = me;
       initiator = initiator;
       purpose = purpose;
       stage = Before;
-      candidate = record { 0 = own .count };
-      row = notKnownRow (own .n) (me .0 - 1);
-      column = notKnownRow (own .n) (me .0 - 1);
+      candidate = record { 0 = newest };
+      row = notKnownRow n (me .0 - 1);
+      column = notKnownRow n (me .0 - 1);
     }
+
+abbrev pub first : Own → Process → Process → ℕ → Participant
+first own me initiator purpose = firstOf (own .n) (own .count) me initiator purpose
 
 -- question 15: "Is it awaited here: right sender, purpose, kind": the invitation first, then other messages, and nothing
 -- once it has ended

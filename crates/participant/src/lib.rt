@@ -17,7 +17,7 @@ ghost use Rattle.book.specs.InTurn.{_then_, ask, answerTo};
 ghost use Rattle.matrix.specs.Entries.{allLower};
 ghost use Rattle.mail.specs.Outgoing.{noLengths};
 ghost use Rattle.machine.specs.Own.{ownOf};
-ghost use Rattle.participant.specs.Step.{awaits};
+ghost use Rattle.participant.specs.Step.{firstOf, awaits};
 ghost use Rattle.participant.specs.Calls.{noParticipant, firstQuestion, firstState, stateQuestion, receiveQuestion, stateAfter, lengthsAfter, bytesAfter};
 
 // How far a participant has come: before the invitation, in the search, or ended.
@@ -60,8 +60,8 @@ pub struct ParticipantAnswer {
     pub lengths: [usize; 16],
 }
 
-// Beside a refusal.
-fn no_participant() -> Participant
+// Beside a refusal, and at a place that is no participant's.
+pub fn no_participant() -> Participant
     ensures { λ r. ⌜ r ≡ noParticipant ⌝ }
 {
     let row = [Count(0); 16];
@@ -113,20 +113,34 @@ impl Participant {
             };
         }
         let place = me.0 - 1;
+        let newest = Checkpoint(counts[place]);
+        ParticipantFirst {
+            answer: Answer::Accepted,
+            state: Participant::before(n, newest, me, initiator, purpose),
+        }
+    }
+
+    // Before the invitation: at its newest checkpoint, nothing known. Inner: the process counts from 1.
+    pub fn before(
+        n: usize,
+        newest: Checkpoint,
+        me: Process,
+        initiator: Process,
+        purpose: u64,
+    ) -> Participant
+        requires { ⌜ 1 ≤ me .0 ⌝ }
+        ensures { λ r. ⌜ r ≡ firstOf n (newest .0) me initiator purpose ⌝ }
+    {
         let row = matrix::not_known_row(n, me);
-        let state = Participant {
+        Participant {
             n,
             me,
             initiator,
             purpose,
             stage: Stage::Before,
-            candidate: Checkpoint(counts[place]),
+            candidate: newest,
             row,
             column: row,
-        };
-        ParticipantFirst {
-            answer: Answer::Accepted,
-            state,
         }
     }
 
@@ -151,7 +165,7 @@ impl Participant {
     }
 
     // Questions 14 to 16 of a message that was read.
-    fn message_question(self, read: ReadMessage) -> u32
+    pub fn message_question(self, read: ReadMessage) -> u32
         ensures { λ r. ⌜ r ≡ (ask 14 (read .formed) then λ _. ask 15 (awaits self (read .message)) then λ _. ask 16 (allLower (read .message .news) (self .column))) ⌝ }
     {
         if !read.formed {

@@ -80,14 +80,14 @@ returns-3 c =
 sub-place : tie.Need-sub-place
 sub-place c = within (c .before .before .before) .0
 
-not-known-row-requires : tie.Need-not-known-row-requires
-not-known-row-requires c κs = within (c .before .before .before) .0
+mul-t20 : tie.Need-mul-t20
+mul-t20 c = omega (arith, within (c .before .before .before))
 
-mul-t22 : tie.Need-mul-t22
-mul-t22 c = omega (arith, within (c .before .before .before .before))
+array-read-t23 : tie.Need-array-read-t23
+array-read-t23 c = within (c .before .before .before) .1
 
-array-read-t25 : tie.Need-array-read-t25
-array-read-t25 c = within (c .before .before .before .before) .1
+before-requires : tie.Need-before-requires
+before-requires c κs = within (c .before .before .before) .0
 
 returns-4 : tie.Need-returns-4
 returns-4 c =
@@ -95,10 +95,10 @@ returns-4 c =
     let told = c .before .before .before .is-purpose in
     first-begun (a .shape) (a .sent .now) (a .received .now) (a .me) (a .initiator) (a .purpose)
     (accepted (c .before .before .before .before .before .before))
-    (c .not-known-row .result)
+    (c .before2 .result)
     (named (c .before .before .before .before))
     (sym (told .ensures) ∙ not-false (told .result) (c .before .before .if3 .left))
-    (c .not-known-row .ensures)
+    (c .before2 .ensures)
 
 pub first-spec : {M : Type 1} → statement M
 first-spec =
@@ -114,7 +114,7 @@ first-spec =
     no-participant-requires-3
     returns-3
     sub-place
-    not-known-row-requires
-    mul-t22
-    array-read-t25
+    mul-t20
+    array-read-t23
+    before-requires
     returns-4)

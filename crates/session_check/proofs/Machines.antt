@@ -1,0 +1,98 @@
+-- Question 13 of the machines of a session: what each test leaves to the later ones.
+use mathlib.Core.Path.{_≡_, refl, ap, _∙_}
+use mathlib.Core.Bool.{Bool, true, false}
+use mathlib.Core.List.{List}
+use Prim.Native.Nat.{ℕ, suc, _+_, _-_, _≤_}
+use native.Mathlib.Numerals.{add-one}
+use native.Mathlib.Omega.{arith}
+use borrow.Author.Tests.{eq-eqb, ne-eqb}
+use lib.ListN.{length}
+use lib.Dec.{eqb}
+use Rattle.book.specs.declared.Shape.{Shape}
+use Rattle.book.specs.declared.TableRows.{TableRows}
+use Rattle.machine.specs.Own.{ownOf}
+use Rattle.machine.specs.Given.{Given}
+use Rattle.machine.proofs.Calls.{given-of}
+use Rattle.participant.specs.declared.Participant.{Participant}
+use Rattle.participant.specs.Fits as participant
+use Rattle.initiator.specs.Fits as initiator
+use Rattle.session.specs.declared.Session.{Session}
+use Rattle.session.specs.Workers.{initiatorOf}
+use Rattle.session.specs.Fits.{initiatorFits}
+use Rattle.session_check.specs.Parts.{TablesGiven, machineFits}
+use Rattle.session_check.proofs.Chains.{first-of-three, second-of-three, third-of-three, first-of-four, second-of-four, third-of-four, fourth-of-four}
+
+-- what a machine of a process that there is is given
+pub given-to : (rows : TableRows) (sent received : List ℕ) (me : ℕ) → length (rows .shape .counts) ≡ 16 → TablesGiven rows sent received
+    → (1 ≤ me) × (me ≤ rows .shape .n) → Given rows sent received me
+given-to rows sent received me sixteen given named =
+    given-of (rows .shape) sent received rows me sixteen (given .accepted) refl (given .starts) named
+
+-- ---- the initiator's
+
+module _ (shape : Shape) (sent received : List ℕ) (session : Session) where
+  abbrev sameMe : Bool
+  sameMe = eqb (session .machine .me .0) (session .initiator .0)
+
+  abbrev samePurpose : Bool
+  samePurpose = eqb (session .machine .purpose) (session .purpose)
+
+  abbrev machineOn : Bool
+  machineOn = initiator.fits (ownOf shape sent received (initiatorOf session)) (session .machine)
+
+  pub other-initiator : (session .machine .me .0 ≡ session .initiator .0 → ⊥) → false ≡ initiatorFits shape sent received session
+  unfolding initiatorFits
+  other-initiator h = first-of-three sameMe samePurpose machineOn (ne-eqb (session .machine .me .0) (session .initiator .0) h)
+
+  module _ (me : session .machine .me .0 ≡ session .initiator .0) where
+    pub other-purpose : (session .machine .purpose ≡ session .purpose → ⊥) → false ≡ initiatorFits shape sent received session
+    unfolding initiatorFits
+    other-purpose h =
+        second-of-three sameMe samePurpose machineOn (eq-eqb (session .machine .me .0) (session .initiator .0) me)
+        (ne-eqb (session .machine .purpose) (session .purpose) h)
+
+    pub initiator-on : {r : Bool} → session .machine .purpose ≡ session .purpose
+        → r ≡ initiator.fits (ownOf shape sent received (session .machine .me .0 - 1)) (session .machine) → r ≡ initiatorFits shape sent received session
+    unfolding initiatorFits
+    initiator-on h e =
+        third-of-three sameMe samePurpose machineOn (eq-eqb (session .machine .me .0) (session .initiator .0) me)
+        (eq-eqb (session .machine .purpose) (session .purpose) h)
+        (e ∙ ap (λ (j : ℕ). initiator.fits (ownOf shape sent received (j - 1)) (session .machine)) me)
+
+-- ---- a participant's
+
+module _ (shape : Shape) (sent received : List ℕ) (of purpose : ℕ) (p : Participant) (k : ℕ) where
+  abbrev isMe : Bool
+  isMe = eqb (p .me .0) (suc k)
+
+  abbrev isIts : Bool
+  isIts = eqb (p .initiator .0) of
+
+  abbrev isFor : Bool
+  isFor = eqb (p .purpose) purpose
+
+  abbrev isOn : Bool
+  isOn = participant.fits (ownOf shape sent received k) p
+
+  abbrev Fits : Bool → Type 0
+  Fits r = r ≡ machineFits shape sent received of purpose p k
+
+  pub other-place : (p .me .0 ≡ k + 1 → ⊥) → Fits false
+  other-place h = first-of-four isMe isIts isFor isOn (ne-eqb (p .me .0) (suc k) (λ e. h (e ∙ omega arith)))
+
+  module _ (me : p .me .0 ≡ k + 1) where
+    its-place : isMe ≡ true
+    its-place = eq-eqb (p .me .0) (suc k) (me ∙ add-one k)
+
+    pub other-search : (p .initiator .0 ≡ of → ⊥) → Fits false
+    other-search h = second-of-four isMe isIts isFor isOn its-place (ne-eqb (p .initiator .0) of h)
+
+    pub other-aim : p .initiator .0 ≡ of → (p .purpose ≡ purpose → ⊥) → Fits false
+    other-aim its h = third-of-four isMe isIts isFor isOn its-place (eq-eqb (p .initiator .0) of its) (ne-eqb (p .purpose) purpose h)
+
+    pub machine-on : {r : Bool} → p .initiator .0 ≡ of → p .purpose ≡ purpose → r ≡ participant.fits (ownOf shape sent received (p .me .0 - 1)) p
+        → Fits r
+    machine-on its aim e =
+        let place : p .me .0 - 1 ≡ k = omega arith in
+        fourth-of-four isMe isIts isFor isOn its-place (eq-eqb (p .initiator .0) of its) (eq-eqb (p .purpose) purpose aim)
+        (e ∙ ap (λ (j : ℕ). participant.fits (ownOf shape sent received j) p) place)

@@ -1,0 +1,92 @@
+-- Questions 10 and 11 of a session: the tests in turn.
+use mathlib.Core.Path.{_≡_, refl}
+use mathlib.Core.Bool.{Bool, true, false, not, _||_}
+use mathlib.Core.List.{List, [], _∷_}
+use Prim.Native.Nat.{ℕ, zero, suc, _<_}
+use native.Mathlib.Omega.{arith}
+use lib.ListN.{length, getD}
+use Rattle.message.specs.Formed.{isNamed, isPurpose}
+use Rattle.machine.specs.Named.{participantNamed, isParticipant}
+use Rattle.participant.specs.declared.Participant.{Participant}
+use Rattle.participant.specs.declared.Stage.the-variants.{Before}
+use Rattle.session.specs.declared.Session.{Session}
+use Rattle.session.specs.Workers.{initiatorOf}
+use Rattle.session.specs.Fits.{sessionNamed, sessionPurposes}
+use Rattle.session_check.specs.Parts.{at, allNamed, allPurposes}
+use Rattle.session_check.proofs.Chains.{first-of-three, second-of-three, third-of-three}
+
+-- ---- the machine at a place, as the code reads it
+
+abbrev pub unread : Participant
+unread =
+    record {
+      n = 0;
+      me = record { 0 = 0 };
+      initiator = record { 0 = 0 };
+      purpose = 0;
+      stage = Before;
+      candidate = record { 0 = 0 };
+      row = [];
+      column = [];
+    }
+
+pub read-at : (participants : List Participant) (k : ℕ) → length participants ≡ 16 → k < 16 → getD participants k unread ≡ at participants k
+read-at participants k sixteen h = go participants k (omega arith)
+  where
+    go : (l : List Participant) (i : ℕ) → i < length l → getD l i unread ≡ at l i
+    go [] i m = absurd (omega arith)
+    go (p ∷ l) zero m = refl
+    go (p ∷ l) (suc i) m = go l i (omega arith)
+
+-- ---- questions 10 and 11
+
+-- the tests at each place
+abbrev pub namedAt : ℕ → ℕ → List Participant → ℕ → Bool
+namedAt n initiator participants k =
+    not (isParticipant n initiator k) || participantNamed n (at participants k .me .0) (at participants k .initiator .0)
+
+abbrev pub purposeAt : ℕ → ℕ → List Participant → ℕ → Bool
+purposeAt n initiator participants k = not (isParticipant n initiator k) || isPurpose (at participants k .purpose)
+
+module _ (n : ℕ) (session : Session) where
+  abbrev named : Bool
+  named = isNamed n (session .initiator .0)
+
+  abbrev machineNamed : Bool
+  machineNamed = isNamed n (session .machine .me .0)
+
+  abbrev restNamed : Bool
+  restNamed = allNamed n (initiatorOf session) (session .participants)
+
+  pub initiator-unnamed : named ≡ false → false ≡ sessionNamed n session
+  unfolding sessionNamed
+  initiator-unnamed h = first-of-three named machineNamed restNamed h
+
+  pub machine-unnamed : named ≡ true → machineNamed ≡ false → false ≡ sessionNamed n session
+  unfolding sessionNamed
+  machine-unnamed h k = second-of-three named machineNamed restNamed h k
+
+  pub named-rest : {r : Bool} → named ≡ true → machineNamed ≡ true → r ≡ restNamed → r ≡ sessionNamed n session
+  unfolding sessionNamed
+  named-rest h k e = third-of-three named machineNamed restNamed h k e
+
+  abbrev purposed : Bool
+  purposed = isPurpose (session .purpose)
+
+  abbrev machinePurposed : Bool
+  machinePurposed = isPurpose (session .machine .purpose)
+
+  abbrev restPurposed : Bool
+  restPurposed = allPurposes n (initiatorOf session) (session .participants)
+
+  pub session-no-purpose : purposed ≡ false → false ≡ sessionPurposes n session
+  unfolding sessionPurposes
+  session-no-purpose h = first-of-three purposed machinePurposed restPurposed h
+
+  pub machine-no-purpose : purposed ≡ true → machinePurposed ≡ false → false ≡ sessionPurposes n session
+  unfolding sessionPurposes
+  machine-no-purpose h k = second-of-three purposed machinePurposed restPurposed h k
+
+  pub purposes-rest : {r : Bool} → purposed ≡ true → machinePurposed ≡ true → r ≡ restPurposed → r ≡ sessionPurposes n session
+  unfolding sessionPurposes
+  purposes-rest h k e = third-of-three purposed machinePurposed restPurposed h k e

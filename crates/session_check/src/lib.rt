@@ -1,0 +1,291 @@
+// Document 01, questions 10, 11 and 13 of a session: are the processes named, are the purposes purposes, does it fit the tables?
+// And what a strand holds.
+mod held;
+
+use book::Counter;
+use book::Process;
+use book::TableRows;
+pub use held::held_on;
+use participant::Participant;
+use participant::Stage;
+use session::Session;
+use session::Waiting;
+ghost use mathlib.Core.Path.{_≡_};
+ghost use mathlib.Core.Bool.{_&&_, _||_};
+ghost use Prim.Native.Nat.{_+_, _-_, _≤_, _<_};
+ghost use lib.Dec.{leb, eqb};
+ghost use Rattle.strands.specs.Strands.{slotSize, strandStart};
+ghost use Rattle.session.specs.Workers.{isEnded};
+ghost use Rattle.session.specs.Fits.{sessionNamed, sessionPurposes, initiatorFits, isAbsent, isBefore, placeFits, sessionFits};
+ghost use Rattle.session_check.specs.Parts.{TablesGiven, allNamed, allPurposes, machineFits, heldFits};
+
+// Are the processes named by the participants' machines, and is each another process than the initiator?
+fn all_named(n: usize, initiator: Process, participants: [Participant; 16]) -> bool
+    requires { ⌜ 1 ≤ initiator .0 ⌝ }
+    ensures { λ r. ⌜ r ≡ allNamed n (initiator .0 - 1) participants ⌝ }
+{
+    let own = initiator.0 - 1;
+    let mut k = 0;
+    while k < book::MOST_PROCESSES {
+        let p = participants[k];
+        let me = p.me;
+        let its = p.initiator;
+        if machine::is_participant(n, own, k) && !machine::participant_named(n, me, its) {
+            return false;
+        }
+        k += 1;
+    }
+    true
+}
+
+// Are the purposes of the participants' machines purposes?
+fn all_purposes(n: usize, initiator: Process, participants: [Participant; 16]) -> bool
+    requires { ⌜ 1 ≤ initiator .0 ⌝ }
+    ensures { λ r. ⌜ r ≡ allPurposes n (initiator .0 - 1) participants ⌝ }
+{
+    let own = initiator.0 - 1;
+    let mut k = 0;
+    while k < book::MOST_PROCESSES {
+        let p = participants[k];
+        if machine::is_participant(n, own, k) && !message::is_purpose(p.purpose) {
+            return false;
+        }
+        k += 1;
+    }
+    true
+}
+
+// Question 10 of a session.
+pub fn named(session: Session, n: usize) -> bool
+    ensures { λ r. ⌜ r ≡ sessionNamed n session ⌝ }
+{
+    let initiator = session.initiator;
+    let machine = session.machine;
+    let me = machine.me;
+    let participants = session.participants;
+    if !message::is_named(n, initiator.0) {
+        return false;
+    }
+    if !message::is_named(n, me.0) {
+        return false;
+    }
+    all_named(n, initiator, participants)
+}
+
+// Question 11 of a session.
+pub fn purposes(session: Session, n: usize) -> bool
+    requires { ⌜ 1 ≤ session .initiator .0 ⌝ }
+    ensures { λ r. ⌜ r ≡ sessionPurposes n session ⌝ }
+{
+    let initiator = session.initiator;
+    let machine = session.machine;
+    let participants = session.participants;
+    if !message::is_purpose(session.purpose) {
+        return false;
+    }
+    if !message::is_purpose(machine.purpose) {
+        return false;
+    }
+    all_purposes(n, initiator, participants)
+}
+
+// Does the initiator's machine fit, and is it the session's?
+fn initiator_fits(session: Session, rows: TableRows, sent: &[Counter], received: &[Counter]) -> bool
+    requires { ⌜ TablesGiven rows (now sent) (now received) ⌝ }
+    requires { ⌜ (1 ≤ session .initiator .0) × (session .initiator .0 ≤ rows .shape .n) ⌝ }
+    ensures { λ r. ⌜ r ≡ initiatorFits (rows .shape) (now (sent .entry)) (now (received .entry)) session ⌝ }
+{
+    let initiator = session.initiator;
+    let machine = session.machine;
+    let me = machine.me;
+    if me.0 != initiator.0 {
+        return false;
+    }
+    if machine.purpose != session.purpose {
+        return false;
+    }
+    machine.fits(rows, sent, received)
+}
+
+// Does the machine at participant k's place fit, and is it of the session?
+fn machine_fits(
+    rows: TableRows,
+    sent: &[Counter],
+    received: &[Counter],
+    initiator: Process,
+    purpose: u64,
+    p: Participant,
+    k: usize,
+) -> bool
+    requires { ⌜ TablesGiven rows (now sent) (now received) ⌝ }
+    requires { ⌜ k < rows .shape .n ⌝ }
+    ensures { λ r. ⌜ r ≡ machineFits (rows .shape) (now (sent .entry)) (now (received .entry)) (initiator .0) purpose p k ⌝ }
+{
+    let me = p.me;
+    let its = p.initiator;
+    if me.0 != k + 1 {
+        return false;
+    }
+    if its.0 != initiator.0 {
+        return false;
+    }
+    if p.purpose != purpose {
+        return false;
+    }
+    p.fits(rows, sent, received)
+}
+
+// Does what waits lie within its slot and within a buffer of so many bytes?
+fn within(n: usize, initiator: usize, k: usize, waits: usize, room: usize) -> bool
+    requires { ⌜ (1 ≤ n) × (n ≤ 16) ⌝ }
+    requires { ⌜ k < 16 ⌝ }
+    ensures { λ r. ⌜ r ≡ (eqb waits 0 || (leb waits (slotSize n) && leb (strandStart n initiator k + waits) room)) ⌝ }
+{
+    if waits == 0 {
+        return true;
+    }
+    if strands::slot_size(n) < waits {
+        return false;
+    }
+    strands::strand_start(n, initiator, k) + waits <= room
+}
+
+// Has it ended?
+fn is_ended(stage: Stage) -> bool
+    ensures { λ r. ⌜ r ≡ isEnded stage ⌝ }
+{
+    match stage {
+        Stage::Before => false,
+        Stage::Searching => false,
+        Stage::Ended => true,
+    }
+}
+
+// Does what a strand holds fit who is awaited, whether the initiator has ended, and how far the participant is?
+fn held_fits(awaited: bool, ended: bool, stage: Stage, w: Waiting) -> bool
+    ensures { λ r. ⌜ r ≡ heldFits awaited ended stage w ⌝ }
+{
+    let going = ended || !is_ended(stage);
+    match w {
+        Waiting::Nothing => !awaited && going,
+        Waiting::Asking => awaited && going,
+        Waiting::Ending => !awaited && ended,
+        Waiting::Report => awaited && going,
+        Waiting::Stray => false,
+    }
+}
+
+// Is it before the invitation?
+fn is_before(stage: Stage) -> bool
+    ensures { λ r. ⌜ r ≡ isBefore stage ⌝ }
+{
+    match stage {
+        Stage::Before => true,
+        Stage::Searching => false,
+        Stage::Ended => false,
+    }
+}
+
+// Is the machine all zero, as at a place that is no participant's?
+fn is_absent(p: Participant) -> bool
+    ensures { λ r. ⌜ r ≡ isAbsent p ⌝ }
+{
+    let me = p.me;
+    let initiator = p.initiator;
+    let stage = p.stage;
+    let candidate = p.candidate;
+    let row = p.row;
+    let column = p.column;
+    let none = [book::Count(0); 16];
+    if p.n != 0 {
+        return false;
+    }
+    if me.0 != 0 {
+        return false;
+    }
+    if initiator.0 != 0 {
+        return false;
+    }
+    if p.purpose != 0 {
+        return false;
+    }
+    if !is_before(stage) {
+        return false;
+    }
+    if candidate.0 != 0 {
+        return false;
+    }
+    if !matrix::same(row, none) {
+        return false;
+    }
+    matrix::same(column, none)
+}
+
+// Does the place of process k fit, with its strand?
+fn place_fits(
+    session: Session,
+    rows: TableRows,
+    sent: &[Counter],
+    received: &[Counter],
+    strands: &[u8],
+    k: usize,
+) -> bool
+    requires { ⌜ TablesGiven rows (now sent) (now received) ⌝ }
+    requires { ⌜ (1 ≤ session .initiator .0) × (session .initiator .0 ≤ rows .shape .n) ⌝ }
+    requires { ⌜ session .machine .n ≡ rows .shape .n ⌝ }
+    requires { ⌜ k < 16 ⌝ }
+    ensures { λ r. ⌜ r ≡ placeFits (rows .shape) (now (sent .entry)) (now (received .entry)) session (now (strands .entry)) k ⌝ }
+{
+    let shape = rows.shape;
+    let n = shape.n;
+    let initiator = session.initiator;
+    let participants = session.participants;
+    let lengths = session.lengths;
+    let machine = session.machine;
+    let awaited = machine.awaited;
+    let p = participants[k];
+    let stage = p.stage;
+    if !machine::is_participant(n, initiator.0 - 1, k) {
+        return is_absent(p) && lengths[k] == 0;
+    }
+    if !machine_fits(rows, sent, received, initiator, session.purpose, p, k) {
+        return false;
+    }
+    if !within(n, initiator.0 - 1, k, lengths[k], strands.len()) {
+        return false;
+    }
+    let w = held_on(session, n, strands, k);
+    held_fits(awaited[k], machine.ended, stage, w)
+}
+
+// Does the session fit the tables (question 13)?
+pub fn fits(
+    session: Session,
+    rows: TableRows,
+    sent: &[Counter],
+    received: &[Counter],
+    strands: &[u8],
+) -> bool
+    requires { ⌜ TablesGiven rows (now sent) (now received) ⌝ }
+    requires { ⌜ (1 ≤ session .initiator .0) × (session .initiator .0 ≤ rows .shape .n) ⌝ }
+    ensures { λ r. ⌜ r ≡ sessionFits (rows .shape) (now (sent .entry)) (now (received .entry)) session (now (strands .entry)) ⌝ }
+{
+    let shape = rows.shape;
+    if session.n != shape.n {
+        return false;
+    }
+    if !initiator_fits(session, rows, sent, received) {
+        return false;
+    }
+    if machine::COUNT_LIMIT <= session.delivered {
+        return false;
+    }
+    let mut k = 0;
+    while k < book::MOST_PROCESSES {
+        if !place_fits(session, rows, sent, received, strands, k) {
+            return false;
+        }
+        k += 1;
+    }
+    true
+}

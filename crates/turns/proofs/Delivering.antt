@@ -1,0 +1,196 @@
+-- From a session that fits the tables to what a delivery is given; what a strand holds, and what is handed over.
+use mathlib.Core.Path.{_≡_, refl, sym, ap, _∙_}
+use mathlib.Core.Bool.{Bool, true, false, _&&_, true≢false}
+use mathlib.Core.List.{List}
+use Prim.Native.Nat.{ℕ, suc, _+_, _-_, _≤_, _<_}
+use native.Mathlib.Omega.{arith}
+use borrow.Author.Tests.{eqb-true, ne-eqb, ltb-true, leb-true}
+use lib.ListN.{length, take, drop}
+use lib.Dec.{eqb, ltb, leb}
+use Rattle.book.specs.declared.Shape.{Shape}
+use Rattle.book.specs.declared.TableRows.{TableRows}
+use Rattle.book.proofs.Tests.{and-both}
+use Rattle.line_theory.specs.Over.{allTo}
+use Rattle.line_theory.proofs.Over.{all-in}
+use Rattle.line_theory.proofs.Accepted.{accepted-size}
+use Rattle.matrix.specs.Matrix.{pick}
+use Rattle.machine.specs.Own.{ownOf}
+use Rattle.machine.specs.Named.{isParticipant, countLimit}
+use Rattle.machine.proofs.Calls.{given-of}
+use Rattle.participant.specs.Calls as participant
+use Rattle.initiator.specs.Fits as initiator
+use Rattle.initiator.specs.Calls.{messageQuestion}
+use Rattle.initiator.proofs.Fitting.{fitting-size, fitting-rounds}
+use Rattle.strands.specs.Strands.{slotSize, strandStart, lengthOn, strandBytes}
+use Rattle.session.specs.declared.Session.{Session}
+use Rattle.session.specs.declared.Turned.{Turned}
+use Rattle.session.specs.declared.Waiting.{Waiting}
+use Rattle.session.specs.declared.Waiting.the-variants.{Nothing, Asking, Ending, Report, Stray}
+use Rattle.session.specs.Workers.{initiatorOf, participantAt}
+use Rattle.session.specs.Held.{senderIn, endsSearch, heldDown, heldUp, waitingBytes, held, isReport}
+use Rattle.session.specs.Fits.{initiatorFits, participantFits, strandWithin, strandFits, isAbsent, placeFits, sessionFits}
+use Rattle.session.specs.Steps.{deliver, deliverDown, deliverUp}
+use Rattle.session_check.specs.Parts.{TablesGiven}
+use Rattle.turns.specs.Parts.{Deliverable}
+
+-- ---- what fits
+
+module _ (shape : Shape) (sent received : List ℕ) (session : Session) (strands : List ℕ)
+    (fits : sessionFits shape sent received session strands ≡ true) where
+  abbrev of-initiator : Bool
+  of-initiator = initiatorFits shape sent received session
+
+  abbrev of-places : Bool
+  of-places = allTo 16 (placeFits shape sent received session strands)
+
+  abbrev of-count : Bool
+  of-count = ltb (session .delivered) countLimit
+
+  parts : (of-initiator ≡ true) × ((of-places && of-count) ≡ true)
+  unfolding sessionFits
+  parts =
+      and-both of-initiator (of-places && of-count)
+      (and-both (eqb (session .n) (shape .n)) (of-initiator && (of-places && of-count)) fits .1)
+
+  pub fits-delivered : session .delivered < countLimit
+  fits-delivered = ltb-true (session .delivered) countLimit (and-both of-places of-count (parts .1) .1)
+
+  abbrev its-fits : Bool
+  its-fits = initiator.fits (ownOf shape sent received (initiatorOf session)) (session .machine)
+
+  of-machine : (eqb (session .machine .me .0) (session .initiator .0) ≡ true) × (its-fits ≡ true)
+  unfolding initiatorFits
+  of-machine =
+      let same : Bool = eqb (session .machine .purpose) (session .purpose) in
+      let both = and-both (eqb (session .machine .me .0) (session .initiator .0)) (same && its-fits) (parts .0) in
+      (both .0, and-both same its-fits (both .1) .1)
+
+  pub fits-me : session .machine .me .0 ≡ session .initiator .0
+  fits-me = eqb-true (session .machine .me .0) (session .initiator .0) (of-machine .0)
+
+  pub fits-size : session .machine .n ≡ shape .n
+  fits-size = fitting-size (ownOf shape sent received (initiatorOf session)) (session .machine) (of-machine .1)
+
+  pub fits-rounds : session .machine .rounds < countLimit
+  fits-rounds = fitting-rounds (ownOf shape sent received (initiatorOf session)) (session .machine) (of-machine .1)
+
+  module _ (k : ℕ) (there : isParticipant (shape .n) (initiatorOf session) k ≡ true) (few : k < 16) where
+    abbrev of-its : Bool
+    of-its = participantFits shape sent received session k
+
+    abbrev of-strand : Bool
+    of-strand = strandFits session k (held (shape .n) session k (waitingBytes (shape .n) session strands k))
+
+    abbrev is-within : Bool
+    is-within = strandWithin (shape .n) session strands k
+
+    its-place : (of-its && (is-within && of-strand)) ≡ true
+    unfolding placeFits
+    its-place =
+        let no-place : Bool = isAbsent (participantAt session k) && eqb (lengthOn (session .lengths) k) 0 in
+        let chosen : pick (isParticipant (shape .n) (initiatorOf session) k) (of-its && (is-within && of-strand)) no-place ≡ (of-its && (is-within && of-strand)) =
+        ap (λ (b : Bool). pick b (of-its && (is-within && of-strand)) no-place) there in
+        sym chosen ∙ all-in 16 (placeFits shape sent received session strands) (and-both of-places of-count (parts .1) .0) k few
+
+    pub fits-within : strandWithin (shape .n) session strands k ≡ true
+    fits-within = and-both is-within of-strand (and-both of-its (is-within && of-strand) its-place .1) .0
+
+    pub fits-its : (participantAt session k .me .0 ≡ suc k) × (participantAt session k .initiator .0 ≡ session .initiator .0)
+    unfolding participantFits
+    fits-its =
+        let p = participantAt session k in
+        let me : Bool = eqb (p .me .0) (suc k) in
+        let its : Bool = eqb (p .initiator .0) (session .initiator .0) in
+        let all = and-both me _ (and-both of-its (is-within && of-strand) its-place .0) in
+        let rest = and-both its _ (all .1) in
+        (eqb-true (p .me .0) (suc k) (all .0), eqb-true (p .initiator .0) (session .initiator .0) (rest .0))
+
+pub there-below : (n initiator k : ℕ) → isParticipant n initiator k ≡ true → k < n
+there-below n initiator k h = ltb-true k n (and-both (ltb k n) _ h .0)
+
+pub deliverable : (rows : TableRows) (sent received : List ℕ) (session : Session) (strands : List ℕ) (k : ℕ)
+    → length (rows .shape .counts) ≡ 16 → TablesGiven rows sent received
+    → sessionFits (rows .shape) sent received session strands ≡ true
+    → (1 ≤ session .initiator .0) × (session .initiator .0 ≤ rows .shape .n)
+    → isParticipant (rows .shape .n) (initiatorOf session) k ≡ true → Deliverable rows sent received session k
+deliverable rows sent received session strands k sixteen given fits named there =
+    let size = accepted-size (rows .shape) sent received (given .accepted) in
+    let below = there-below (rows .shape .n) (initiatorOf session) k there in
+    let few : k < 16 = omega (arith, size, below) in
+    let its = fits-its (rows .shape) sent received session strands fits k there few in
+    record {
+      to-it = given-of (rows .shape) sent received rows (suc k) sixteen (given .accepted) refl (given .starts) (omega (arith, below));
+      to-initiator = given-of (rows .shape) sent received rows (session .initiator .0) sixteen (given .accepted) refl (given .starts) named;
+      its-place = its .0;
+      its-initiator = its .1;
+      there = omega (arith, named, size);
+      counted = (few, fits-delivered (rows .shape) sent received session strands fits);
+      own-place = fits-me (rows .shape) sent received session strands fits;
+      rounds = fits-rounds (rows .shape) sent received session strands fits;
+    }
+
+-- ---- the bytes of a strand
+
+module _ (n : ℕ) (session : Session) (strands : List ℕ) (k : ℕ) where
+  abbrev waits : ℕ
+  waits = lengthOn (session .lengths) k
+
+  pub strand-end : (at : ℕ) → at ≡ strandStart n (initiatorOf session) k → strandWithin n session strands k ≡ true → (waits ≡ 0 → ⊥)
+      → at + waits ≤ length strands
+  unfolding strandWithin
+  strand-end at e within some =
+      let start : ℕ = strandStart n (initiatorOf session) k in
+      let both = and-both (leb waits (slotSize n)) (leb (start + waits) (length strands)) (rw (ne-eqb waits 0 some) at within) in
+      let ends : start + waits ≤ length strands = leb-true (start + waits) (length strands) (both .1) in
+      rw e ends
+
+  pub part-is : (at : ℕ) → at ≡ strandStart n (initiatorOf session) k
+      → take (at + waits - at) (drop at strands) ≡ waitingBytes n session strands k
+  unfolding strandBytes
+  part-is at e =
+      let long : at + waits - at ≡ waits = omega arith in
+      λ i. take (long i) (drop (e i) strands)
+
+-- ---- a report passes the questions of the initiator
+
+not-report : (w : Waiting) → isReport w ≡ false → w ≡ Report → ⊥
+not-report w other is = true≢false (ap (λ (v : Waiting). isReport v) (sym is) ∙ other)
+
+module _ (n : ℕ) (session : Session) (k : ℕ) (s : List ℕ) where
+  pub report-passes : held n session k s ≡ Report → messageQuestion n (session .machine) s ≡ 0
+  unfolding held heldDown heldUp
+  report-passes h =
+      eqb-true (messageQuestion n (session .machine) s) 0
+      (only (eqb (length s) 0) (eqb (senderIn s) (session .initiator .0)) (eqb (senderIn s) (suc k))
+      (eqb (participant.messageQuestion n (participantAt session k) s) 0)
+      (endsSearch (participant.readBy n (participantAt session k) s))
+      (eqb (messageQuestion n (session .machine) s) 0) h)
+    where
+      only : (none down up asked ends passes : Bool)
+          → pick none Nothing (pick down (pick asked (pick ends Ending Asking) Stray) (pick up (pick passes Report Stray) Stray)) ≡ Report
+          → passes ≡ true
+      only true down up asked ends passes e = absurd (not-report Nothing refl e)
+      only false true up true true passes e = absurd (not-report Ending refl e)
+      only false true up true false passes e = absurd (not-report Asking refl e)
+      only false true up false ends passes e = absurd (not-report Stray refl e)
+      only false false true asked ends true e = refl
+      only false false true asked ends false e = absurd (not-report Stray refl e)
+      only false false false asked ends passes e = absurd (not-report Stray refl e)
+
+-- ---- what is handed over
+
+module _ (shape : Shape) (sent received : List ℕ) (session : Session) (k : ℕ) where
+  -- the part of the buffer that is handed over is the strand
+  pub handed-over : (s t : List ℕ) (w : Waiting) (turned : Turned) → s ≡ t → w ≡ held (shape .n) session k t
+      → turned ≡ deliver shape sent received session k s w
+      → turned ≡ deliver shape sent received session k t (held (shape .n) session k t)
+  handed-over s t w turned e f g = g ∙ (λ i. deliver shape sent received session k (e i) (f i))
+
+  -- a delivery leaves the session's initiator
+  pub same-initiator : (s : List ℕ) (w : Waiting) → deliver shape sent received session k s w .session .initiator ≡ session .initiator
+  unfolding deliverDown deliverUp
+  same-initiator s Nothing = refl
+  same-initiator s Asking = refl
+  same-initiator s Ending = refl
+  same-initiator s Report = refl
+  same-initiator s Stray = refl

@@ -1,0 +1,4 @@
+pub mod Answers
+pub mod Delivering
+pub mod Starting
+pub mod Turning

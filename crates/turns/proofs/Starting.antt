@@ -1,0 +1,98 @@
+-- The questions of a start, and what it hands back.
+use mathlib.Core.Path.{_≡_, sym, ap, subst, _∙_}
+use mathlib.Core.List.{List}
+use Prim.Native.Nat.{ℕ, _-_, _≤_}
+use Rattle.book.specs.declared.Answer.{Answer}
+use Rattle.book.specs.declared.Process.{Process}
+use Rattle.book.specs.declared.Shape.{Shape}
+use Rattle.book.specs.InTurn.{_then_, ask, answerTo}
+use Rattle.book.specs.Check.{tablesQuestion}
+use Rattle.book.proofs.Questions.{then-none, asked-yes}
+use Rattle.message.specs.Formed.{isNamed, isPurpose}
+use Rattle.message.proofs.Heads.{named-in}
+use Rattle.strands.specs.Strands.{haveRoom, posted}
+use Rattle.session.specs.declared.Session.{Session}
+use Rattle.session.specs.declared.Turned.{Turned}
+use Rattle.session.specs.Steps.{begun, withPosted}
+use Rattle.session.specs.Calls.{startQuestion, noSession, sessionStarted, strandsStarted}
+use Rattle.turns.specs.Parts.{roomAsked, strandsWith}
+use Rattle.turns.proofs.Answers.{two-then, at-first, at-second, at-last, Handed, handed-refused, handed-by}
+
+module _ (shape : Shape) (sent received : List ℕ) (initiator : Process) (purpose : ℕ) (strands : List ℕ) where
+  abbrev tables : ℕ
+  tables = tablesQuestion shape sent received
+
+  abbrev pub named : ℕ
+  named = ask 10 (isNamed (shape .n) (initiator .0)) then λ _. ask 11 (isPurpose purpose)
+
+  abbrev pub first : Turned
+  first = begun shape sent received initiator purpose
+
+  abbrev room : ℕ
+  room = ask 17 (haveRoom (shape .n) (initiator .0 - 1) (first .outgoing) strands)
+
+  abbrev asked : ℕ
+  asked = startQuestion shape sent received initiator purpose strands
+
+  abbrev written : List ℕ
+  written = posted (shape .n) (initiator .0 - 1) (first .outgoing) strands
+
+  abbrev Started : Answer → Session → List ℕ → Type 0
+  Started answer session bytes =
+      (answer ≡ answerTo asked)
+      × ((session ≡ sessionStarted shape sent received initiator purpose strands)
+      × (bytes ≡ strandsStarted shape sent received initiator purpose strands))
+
+  by-parts : asked ≡ (tables then λ _. named then λ _. room)
+  unfolding startQuestion
+  by-parts =
+      ap (λ (q : ℕ). tables then λ _. q)
+      (sym (two-then (ask 10 (isNamed (shape .n) (initiator .0))) (ask 11 (isPurpose purpose)) room))
+
+  handed : (answer : Answer) (session : Session) (bytes : List ℕ)
+      → Handed asked noSession (withPosted first) strands written answer session bytes → Started answer session bytes
+  unfolding sessionStarted strandsStarted
+  handed answer session bytes h = h
+
+  -- a question that fails
+  module _ (none : Session) (is-none : none ≡ noSession) where
+    stopped : (found : ℕ) (answer : Answer) (session : Session) → asked ≡ found → (found ≡ 0 → ⊥)
+        → (answer ≡ answerTo found) × (session ≡ none) → Started answer session strands
+    stopped found answer session e h told =
+        handed answer session strands
+        (handed-refused noSession (withPosted first) strands written answer session asked found e h (told .0, told .1 ∙ is-none))
+
+    pub start-tables : (found : ℕ) (answer : Answer) (session : Session) → found ≡ tables → (found ≡ 0 → ⊥)
+        → (answer ≡ answerTo found) × (session ≡ none) → Started answer session strands
+    start-tables found answer session e h told =
+        stopped found answer session (by-parts ∙ at-first tables named room (λ z. h (e ∙ z)) ∙ sym e) h told
+
+    module _ (passed : tables ≡ 0) where
+      pub start-named : (found : ℕ) (answer : Answer) (session : Session) → found ≡ named → (found ≡ 0 → ⊥)
+          → (answer ≡ answerTo found) × (session ≡ none) → Started answer session strands
+      start-named found answer session e h told =
+          stopped found answer session (by-parts ∙ at-second tables named room passed (λ z. h (e ∙ z)) ∙ sym e) h told
+
+      -- the invitations are put on the strands if there is room
+      pub start-posted : named ≡ 0 → (turned : Turned) → turned ≡ first → (answer : Answer) (session : Session) (bytes : List ℕ)
+          → Handed (roomAsked (shape .n) turned strands) none (withPosted turned) strands (strandsWith (shape .n) turned strands) answer session bytes
+          → Started answer session bytes
+      unfolding begun
+      start-posted h turned e answer session bytes done =
+          handed answer session bytes
+          (handed-by noSession (withPosted first) strands written answer session asked room bytes (by-parts ∙ at-last tables named room passed h)
+          (subst (λ (t : Session). Handed room t (withPosted first) strands written answer session bytes) is-none
+          (subst
+          (λ (t : Turned).
+          Handed (roomAsked (shape .n) t strands) none (withPosted t) strands (strandsWith (shape .n) t strands) answer session bytes)
+          e done)))
+
+  -- the initiator is a process that there is, and stays the session's
+  pub start-there : named ≡ 0 → (1 ≤ initiator .0) × (initiator .0 ≤ shape .n)
+  start-there h =
+      named-in (shape .n) (initiator .0)
+      (asked-yes 9 (isNamed (shape .n) (initiator .0)) (then-none (ask 10 (isNamed (shape .n) (initiator .0))) (λ _. ask 11 (isPurpose purpose)) h .0))
+
+  pub start-initiator : (turned : Turned) → turned ≡ first → 1 ≤ initiator .0 → 1 ≤ turned .session .initiator .0
+  unfolding begun
+  start-initiator turned e h = subst (λ (t : Turned). 1 ≤ t .session .initiator .0) (sym e) h
