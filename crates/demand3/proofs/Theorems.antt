@@ -13,7 +13,7 @@ use Rattle.demand3.proofs.Reached as ends
 use Rattle.demand3.specs.Statement.{Demand3}
 use Rattle.demand3.specs.Beside.{GoesOn, EndIsReached, StaysUntilDelivered, LeavesOthers, RestartEnds}
 
-pieces : Pieces
+pub pieces : Pieces
 pieces =
     record {
       laid-after = laid-after;

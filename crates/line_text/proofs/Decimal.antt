@@ -10,7 +10,7 @@ use borrow.Author.Tests.{lt-ltb, le-ltb}
 use lib.ListN.{length, getD, length-append}
 use Rattle.book.specs.declared.Checkpoint.{Checkpoint}
 use Rattle.line_text.specs.Ascii.{ascii}
-use Rattle.line_text.specs.Text.{digitsOf, decimal, spaced, row, checkpoints, lineFound, foundText, refusedText}
+use Rattle.line_text.specs.Text.{digitsOf, decimal, spaced, row, checkpointNumbers, firstLines, foundText, refusedText}
 
 -- ---- one digit, and more
 
@@ -70,22 +70,22 @@ pub row-most : (word : List ℕ) (n : ℕ) → length (row word n) ≤ length wo
 unfolding row
 row-most word n = simp length-append (omega (arith, spaced-most n))
 
-pub checkpoints-most : (n : ℕ) (set : List Checkpoint) → length (checkpoints n set) ≤ 21 * n
-unfolding checkpoints
-checkpoints-most zero set = omega arith
-checkpoints-most (suc j) set =
-    simp length-append (omega (arith, checkpoints-most j set, spaced-most (getD set j (record { 0 = 0 }) .0)))
+pub numbers-most : (n : ℕ) (set : List Checkpoint) → length (checkpointNumbers n set) ≤ 21 * n
+unfolding checkpointNumbers
+numbers-most zero set = omega arith
+numbers-most (suc j) set =
+    simp length-append (omega (arith, numbers-most j set, spaced-most (getD set j (record { 0 = 0 }) .0)))
 
-pub line-found-most : (n : ℕ) (set : List Checkpoint) → n ≤ 16 → length (lineFound n set) ≤ 372
-unfolding lineFound
-line-found-most n set h = simp length-append (omega (arith, row-most (ascii "processes") n, checkpoints-most n set))
+pub first-lines-most : (n : ℕ) (set : List Checkpoint) → n ≤ 16 → length (firstLines n set) ≤ 372
+unfolding firstLines
+first-lines-most n set h = simp length-append (omega (arith, row-most (ascii "processes") n, numbers-most n set))
 
 pub found-most : (n : ℕ) (set : List Checkpoint) (passed rounds messages : ℕ) → n ≤ 16
     → length (foundText n set passed rounds messages) ≤ 512
 unfolding foundText
 found-most n set passed rounds messages h =
     simp length-append
-    (omega (arith, line-found-most n set h, row-most (ascii "passed") passed, row-most (ascii "rounds") rounds, row-most (ascii "messages") messages))
+    (omega (arith, first-lines-most n set h, row-most (ascii "passed") passed, row-most (ascii "rounds") rounds, row-most (ascii "messages") messages))
 
 pub refused-most : (question : ℕ) → length (refusedText question) ≤ 512
 unfolding refusedText

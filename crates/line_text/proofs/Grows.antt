@@ -9,8 +9,8 @@ use lib.ListN.{length, take, set, getD, length-append}
 use lib.Seq.{take-suc, take-suc-set, take-all, length-take-le}
 use Rattle.book.specs.declared.Checkpoint.{Checkpoint}
 use Rattle.line_text.specs.declared.Text.{Text}
-use Rattle.line_text.specs.Text.{Grown, Holds, spaced, row, checkpoints}
-use Rattle.line_text.proofs.Decimal.{row-most, checkpoints-most}
+use Rattle.line_text.specs.Text.{Grown, Holds, spaced, row, checkpointNumbers}
+use Rattle.line_text.proofs.Decimal.{row-most, numbers-most}
 
 pub grown-none : (text : Text) → Grown text text []
 grown-none text = record { first = sym (append-nil (take (text .len) (text .bytes))); long = omega arith }
@@ -59,19 +59,19 @@ module _ {text : Text} {w : List ℕ} {next : Text} {i : ℕ} (r : Worded text w
 -- the checkpoint numbers of the first j processes are behind
 pub record Listed (n : ℕ) (set : List Checkpoint) (text next : Text) (j : ℕ) : Type 0 where
   pub place : j ≤ n
-  pub behind : Grown text next (checkpoints j set)
+  pub behind : Grown text next (checkpointNumbers j set)
 
 pub list-begun : (n : ℕ) (set : List Checkpoint) (text : Text) → Listed n set text text 0
-unfolding checkpoints
+unfolding checkpointNumbers
 list-begun n set text = record { place = omega arith; behind = grown-none text }
 
 module _ {n : ℕ} {set : List Checkpoint} {text next : Text} {j : ℕ} (r : Listed n set text next j) where
   pub list-room : text .len ≤ 176 → n ≤ 16 → j < n → next .len ≤ 491
-  list-room room small h = omega (arith, r .behind .long, checkpoints-most j set)
+  list-room room small h = omega (arith, r .behind .long, numbers-most j set)
 
   pub list-more : {then : Text} → j < n → Grown next then (spaced (getD set j (record { 0 = 0 }) .0)) → Listed n set text then (j + 1)
-  unfolding checkpoints
+  unfolding checkpointNumbers
   list-more h g = record { place = omega arith; behind = rw (add-one j) (grown-more (r .behind) g) }
 
-  pub list-ended : n ≤ j → Grown text next (checkpoints n set)
+  pub list-ended : n ≤ j → Grown text next (checkpointNumbers n set)
   list-ended h = let e : j ≡ n = omega (arith, r .place) in rw e at (r .behind)

@@ -1,15 +1,19 @@
 -- A text copied into a buffer byte by byte, and whether it fits.
 -- Assumes nothing.
 use mathlib.Core.Path.{_≡_, refl, _∙_}
+use mathlib.Core.Bool.{Bool, true, false}
 use mathlib.Core.List.{List, [], _∷_, _++_}
 use Prim.Native.Nat.{ℕ, _+_, _≤_, _<_}
 use native.Mathlib.Nat.{zero-add}
 use native.Mathlib.Numerals.{add-one}
 use native.Mathlib.Omega.{arith}
-use borrow.Author.Tests.{le-leb, lt-leb}
+use borrow.Author.Tests.{le-leb, lt-leb, leb-true}
 use lib.ListN.{length, take, set, getD, length-set}
 use lib.Seq.{sets, take-suc, length-take-le}
+use lib.Dec.{leb}
 use Rattle.book.specs.declared.WriteAnswer.the-variants.{Length, Refused}
+use Rattle.book.specs.InTurn.{ask}
+use Rattle.book.specs.Write.{lengthOr}
 use Rattle.book.proofs.Stores.{sets-append}
 use Rattle.line_text.specs.Put.{putAnswer, textPut}
 
@@ -54,3 +58,12 @@ module _ (bytes : List ℕ) (len : ℕ) (out : List ℕ) (inside : len ≤ lengt
       let l = length-take-le len bytes inside in
       let e = le-leb len (length out) h in
       (rw (l, e), rw (l, e))
+
+-- a length that is answered lies within the buffer
+pub put-within : (text out : List ℕ) (n : ℕ) → putAnswer text out ≡ Length n → n ≤ length out
+unfolding putAnswer
+put-within text out n = go (leb (length text) (length out)) refl
+  where
+    go : (t : Bool) → leb (length text) (length out) ≡ t → lengthOr (ask 17 t) (length text) ≡ Length n → n ≤ length out
+    go true e is = let same : length text ≡ n = cc in omega (arith, leb-true (length text) (length out) e)
+    go false e other = let z : _≡_ {A = ℕ} 0 1 = cc in absurd (omega arith)

@@ -28,18 +28,18 @@ unfoldable pub row : List ℕ → ℕ → List ℕ
 row word n = word ++ spaced n ++ ascii "\n"
 
 -- a space and the checkpoint number of each of the first n processes
-unfoldable pub checkpoints : ℕ → List Checkpoint → List ℕ
-checkpoints zero set = []
-checkpoints (suc j) set = checkpoints j set ++ spaced (getD set j (record { 0 = 0 }) .0)
+unfoldable pub checkpointNumbers : ℕ → List Checkpoint → List ℕ
+checkpointNumbers zero set = []
+checkpointNumbers (suc j) set = checkpointNumbers j set ++ spaced (getD set j (record { 0 = 0 }) .0)
 
 -- the number of processes, and the line
-unfoldable pub lineFound : ℕ → List Checkpoint → List ℕ
-lineFound n set = row (ascii "processes") n ++ ascii "line" ++ checkpoints n set ++ ascii "\n"
+unfoldable pub firstLines : ℕ → List Checkpoint → List ℕ
+firstLines n set = row (ascii "processes") n ++ ascii "line" ++ checkpointNumbers n set ++ ascii "\n"
 
 -- an accepted book: its five lines
 unfoldable pub foundText : ℕ → List Checkpoint → ℕ → ℕ → ℕ → List ℕ
 foundText n set passed rounds messages =
-    lineFound n set ++ row (ascii "passed") passed ++ row (ascii "rounds") rounds ++ row (ascii "messages") messages
+    firstLines n set ++ row (ascii "passed") passed ++ row (ascii "rounds") rounds ++ row (ascii "messages") messages
 
 -- a refused book
 unfoldable pub refusedText : ℕ → List ℕ

@@ -1,13 +1,18 @@
 // The text that the program `line` prints (document 01), as a value that grows, and put into a lent buffer.
+use book::Answer;
 use book::Checkpoint;
+use book::Counter;
+use book::Process;
+use book::Shape;
 use book::WriteAnswer;
 ghost use mathlib.Core.Path.{_≡_};
 ghost use mathlib.Core.List.{[], _∷_};
 ghost use Prim.Native.Nat.{_+_, _≤_, _<_};
 ghost use lib.ListN.{length, take};
 ghost use lib.Seq.{sets};
-ghost use Rattle.line_text.specs.Text.{Grown, Holds, decimal, spaced, row, checkpoints, lineFound, foundText, refusedText};
+ghost use Rattle.line_text.specs.Text.{Grown, Holds, decimal, spaced, row, checkpointNumbers, firstLines, foundText, refusedText};
 ghost use Rattle.line_text.specs.Put.{putAnswer, textPut};
+ghost use Rattle.line_text.specs.Line.{tableInside, searchText, lineText};
 
 // Room for the longest text: sixteen checkpoint numbers, four other numbers, each of at most 20 digits, and the words.
 pub const ROOM: usize = 512;
@@ -84,9 +89,9 @@ fn row(text: Text, w: &[u8], v: u64) -> Text
 }
 
 // The checkpoint numbers of the first n processes more, a space before each.
-fn checkpoints(text: Text, n: usize, set: [Checkpoint; 16]) -> Text
+fn checkpoint_numbers(text: Text, n: usize, set: [Checkpoint; 16]) -> Text
     requires { ⌜ (n ≤ 16) × (text .len ≤ 176) ⌝ }
-    ensures { λ r. ⌜ Grown text r (checkpoints n set) ⌝ }
+    ensures { λ r. ⌜ Grown text r (checkpointNumbers n set) ⌝ }
 {
     let mut next = text;
     let mut j = 0;
@@ -98,12 +103,12 @@ fn checkpoints(text: Text, n: usize, set: [Checkpoint; 16]) -> Text
 }
 
 // The number of processes and the line more, a line each.
-fn line_found(text: Text, n: usize, set: [Checkpoint; 16]) -> Text
+fn first_lines(text: Text, n: usize, set: [Checkpoint; 16]) -> Text
     requires { ⌜ (n ≤ 16) × (text .len ≤ 140) ⌝ }
-    ensures { λ r. ⌜ Grown text r (lineFound n set) ⌝ }
+    ensures { λ r. ⌜ Grown text r (firstLines n set) ⌝ }
 {
     let next = word(row(text, b"processes", n as u64), b"line");
-    push(checkpoints(next, n, set), b'\n')
+    push(checkpoint_numbers(next, n, set), b'\n')
 }
 
 // The text for an accepted book of n processes, with its line, and what is passed, the rounds and the messages.
@@ -117,7 +122,7 @@ pub fn found_text(
     requires { ⌜ n ≤ 16 ⌝ }
     ensures { λ r. ⌜ Holds r (foundText n set passed rounds messages) ⌝ }
 {
-    let two = line_found(empty(), n, set);
+    let two = first_lines(empty(), n, set);
     let three = row(two, b"passed", passed as u64);
     let four = row(three, b"rounds", rounds as u64);
     row(four, b"messages", messages as u64)
@@ -155,4 +160,37 @@ pub fn put_text(text: Text, out: &mut [u8]) -> WriteAnswer
     }
     copy_text(text, out);
     WriteAnswer::Length(text.len)
+}
+
+// A table, made by a function of its own, so that no proof meets its many entries one by one.
+fn table_inside() -> [Counter; 4096]
+    ensures { λ r. ⌜ r ≡ tableInside ⌝ }
+{
+    [0; 4096]
+}
+
+// The text of a search with purpose 3 from process 1.
+fn search_text(shape: Shape, sent: &[Counter], received: &[Counter]) -> Text
+    requires { ⌜ shape .n ≤ 16 ⌝ }
+    ensures { λ r. ⌜ Holds r (searchText shape (now (sent .entry)) (now (received .entry))) ⌝ }
+{
+    let found = searches::search(shape, sent, received, Process(1), 3);
+    let set = found.set;
+    found_text(shape.n, set, found.passed, found.rounds, found.messages)
+}
+
+// The text of a book: what the program prints for it. Question: 17.
+pub fn line_text(bytes: &[u8], out: &mut [u8]) -> WriteAnswer
+    ensures answer { λ r. ⌜ r ≡ putAnswer (lineText (now (bytes .entry))) (now (out .entry)) ⌝ }
+    ensures bytes { λ _. ⌜ now (out .exit) ≡ textPut (lineText (now (bytes .entry))) (now (out .entry)) ⌝ }
+{
+    let mut sent = table_inside();
+    let mut received = table_inside();
+    let read = reader::read(bytes, &mut sent, &mut received);
+    let answer = read.answer;
+    let shape = read.shape;
+    match answer {
+        Answer::Refused(question) => put_text(refused_text(question), out),
+        Answer::Accepted => put_text(search_text(shape, &sent, &received), out),
+    }
 }

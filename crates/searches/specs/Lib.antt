@@ -1,3 +1,4 @@
 pub mod Lowest
-pub mod Run
 pub mod Search
+pub mod Run
+pub mod Parts

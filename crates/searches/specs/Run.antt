@@ -1,4 +1,5 @@
 -- The call `run`: a book's bytes, two lent tables, an initiator, a purpose and a list of turns; the strands lie inside.
+use mathlib.Core.Path.{_≡_}
 use mathlib.Core.List.{List, [], _∷_}
 use Prim.Native.Nat.{ℕ}
 use Rattle.book.specs.declared.Shape.{Shape}
@@ -8,7 +9,7 @@ use Rattle.book.specs.Read.{readQuestion, noShape, shapeRead, sentRead, receive
 use Rattle.message.specs.Formed.{isNamed, isPurpose}
 use Rattle.session.specs.declared.Session.{Session}
 use Rattle.session.specs.Calls.{noSession}
-use Rattle.demand3.specs.Statement.{Beginning, after}
+use Rattle.demand3.specs.Statement.{Beginning, Searches, after, HoldsAfter}
 use Rattle.searches.specs.Lowest.{strandsInside}
 
 -- the turns name these processes
@@ -47,6 +48,10 @@ module _ (bytes sent received : List ℕ) (initiator : Process) (purpose : ℕ) 
 
   unfoldable pub receivedRun : List ℕ
   receivedRun = unlessRefused question received (receivedRead bytes sent received)
+
+  -- demand 3 holds after the turns, where the run is accepted and searches
+  abbrev pub CarriesDemand3 : List ℕ → Type 0
+  CarriesDemand3 turns = question ≡ 0 → Searches beginning → HoldsAfter beginning (asProcesses turns)
 
   unfoldable pub sessionRun : List ℕ → Session
   sessionRun turns = unlessRefused question noSession (after beginning (asProcesses turns) .session)

@@ -3,16 +3,16 @@
 use Prim.Native.Nat.{_≤_}
 use native.Mathlib.Omega.{arith}
 use Rattle.line_text.specs.Text.{foundText}
-use Rattle.line_text.proofs.Decimal.{line-found-most, found-most}
+use Rattle.line_text.proofs.Decimal.{first-lines-most, found-most}
 use Rattle.line_text.proofs.Grows.{grown-more, holds-grown, row-room}
 use borrow.Author.Needs.{needs}
 use Rattle.line_text.proofs.found_text.Statement.{statement}
 use Rattle.line_text.proofs.found_text.Tie as tie
 
 -- how long the text is at most with its first lines
-two-lines : (c : tie.After-row-arg) → c .before .line-found .result .len ≤ 372
+two-lines : (c : tie.After-row-arg) → c .before .first-lines .result .len ≤ 372
 two-lines c =
-    omega (arith, c .before .line-found .ensures .long, line-found-most (c .before .before .before .args .n) (c .before .before .before .args .set) (c .before .before .before .pre))
+    omega (arith, c .before .first-lines .ensures .long, first-lines-most (c .before .before .before .args .n) (c .before .before .before .args .set) (c .before .before .before .pre))
 
 three-lines : (c : tie.After-row-arg2) → c .before .row .result .len ≤ 400
 three-lines c = omega (arith, two-lines (c .before .before), row-room _ _ (c .before .row .ensures))
@@ -23,8 +23,8 @@ four-lines c = omega (arith, three-lines (c .before .before), row-room _ _ (c .b
 empty-requires : tie.Need-empty-requires
 empty-requires c κs = search needs
 
-line-found-requires : tie.Need-line-found-requires
-line-found-requires c κs = search needs
+first-lines-requires : tie.Need-first-lines-requires
+first-lines-requires c κs = search needs
 
 slice-aggregate-row : tie.Need-slice-aggregate-row
 slice-aggregate-row c = search needs
@@ -49,7 +49,7 @@ unfolding foundText
 returns c =
     let at = c .before .before .before .before .before .before .before .before in
     let most = found-most (at .args .n) (at .args .set) (at .args .passed) (at .args .rounds) (at .args .messages) (at .pre) in
-    let grown = grown-more (grown-more (grown-more (c .before .before .before .before .before .before .line-found .ensures) (c .before .before .before .before .row .ensures)) (c .before .before .row2 .ensures)) (c .row3 .ensures) in
+    let grown = grown-more (grown-more (grown-more (c .before .before .before .before .before .before .first-lines .ensures) (c .before .before .before .before .row .ensures)) (c .before .before .row2 .ensures)) (c .row3 .ensures) in
     holds-grown (c .before .before .before .before .before .before .before .empty .ensures) most grown
 
 pub found-text-spec : {M : Type 1} → statement M
@@ -57,7 +57,7 @@ found-text-spec =
     tie.close
     (tie.spec
     empty-requires
-    line-found-requires
+    first-lines-requires
     slice-aggregate-row
     row-requires
     slice-aggregate-row-2

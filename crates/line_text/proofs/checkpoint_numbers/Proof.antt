@@ -1,10 +1,10 @@
--- `line_text::checkpoints` meets its contract. The invariant: the numbers of the first j processes are behind.
+-- `line_text::checkpoint_numbers` meets its contract. The invariant: the numbers of the first j processes are behind.
 -- Assumes nothing.
 use Prim.Native.Nat.{_-_}
 use native.Mathlib.Omega.{arith}
 use Rattle.line_text.proofs.Grows.{Listed, list-begun, list-room, list-more, list-ended}
-use Rattle.line_text.proofs.checkpoints.Statement.{statement}
-use Rattle.line_text.proofs.checkpoints.Tie as tie
+use Rattle.line_text.proofs.checkpoint_numbers.Statement.{statement}
+use Rattle.line_text.proofs.checkpoint_numbers.Tie as tie
 
 abbrev Inv-loop : tie.InvT-loop
 Inv-loop n set next₀ j₀ next j = Listed n set next₀ next j
@@ -36,8 +36,8 @@ loop-again c = list-more (c .before .before .loop .inv) (c .before .loop-test .t
 returns : tie.Need-returns Inv-loop μ-loop
 returns c = list-ended (c .before .loop .inv) (omega arith)
 
-pub checkpoints-spec : {M : Type 1} → statement M
-checkpoints-spec =
+pub checkpoint-numbers-spec : {M : Type 1} → statement M
+checkpoint-numbers-spec =
     tie.close
     (tie.spec
     Inv-loop

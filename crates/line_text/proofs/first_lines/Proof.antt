@@ -1,13 +1,13 @@
--- `line_text::line_found` meets its contract.
+-- `line_text::first_lines` meets its contract.
 -- Assumes nothing.
 use Prim.Native.Nat.{_≤_}
 use native.Mathlib.Omega.{arith}
-use Rattle.line_text.specs.Text.{lineFound}
-use Rattle.line_text.proofs.Decimal.{checkpoints-most}
+use Rattle.line_text.specs.Text.{firstLines}
+use Rattle.line_text.proofs.Decimal.{numbers-most}
 use Rattle.line_text.proofs.Grows.{grown-more, row-room}
 use borrow.Author.Needs.{needs}
-use Rattle.line_text.proofs.line_found.Statement.{statement}
-use Rattle.line_text.proofs.line_found.Tie as tie
+use Rattle.line_text.proofs.first_lines.Statement.{statement}
+use Rattle.line_text.proofs.first_lines.Tie as tie
 
 -- how long the text is at most: with the first line, and with the word of the second
 one-line : (c : tie.After-word-arg) → c .before .row .result .len ≤ 171
@@ -28,25 +28,25 @@ slice-aggregate-word c = search needs
 word-requires : tie.Need-word-requires
 word-requires c κs = omega (arith, one-line c)
 
-checkpoints-requires : tie.Need-checkpoints-requires
-checkpoints-requires c κs = (search needs, omega (arith, word-placed c))
+checkpoint-numbers-requires : tie.Need-checkpoint-numbers-requires
+checkpoint-numbers-requires c κs = (search needs, omega (arith, word-placed c))
 
 push-requires : tie.Need-push-requires
-push-requires c κs = omega (arith, word-placed (c .before), c .checkpoints .ensures .long, checkpoints-most (c .before .before .before .before .before .args .n) (c .before .before .before .before .before .args .set))
+push-requires c κs = omega (arith, word-placed (c .before), c .checkpoint-numbers .ensures .long, numbers-most (c .before .before .before .before .before .args .n) (c .before .before .before .before .before .args .set))
 
 returns : tie.Need-returns
-unfolding lineFound
+unfolding firstLines
 returns c =
-    grown-more (grown-more (grown-more (c .before .before .before .before .row .ensures) (c .before .before .word .ensures)) (c .before .checkpoints .ensures)) (c .push .ensures)
+    grown-more (grown-more (grown-more (c .before .before .before .before .row .ensures) (c .before .before .word .ensures)) (c .before .checkpoint-numbers .ensures)) (c .push .ensures)
 
-pub line-found-spec : {M : Type 1} → statement M
-line-found-spec =
+pub first-lines-spec : {M : Type 1} → statement M
+first-lines-spec =
     tie.close
     (tie.spec
     slice-aggregate-row
     row-requires
     slice-aggregate-word
     word-requires
-    checkpoints-requires
+    checkpoint-numbers-requires
     push-requires
     returns)

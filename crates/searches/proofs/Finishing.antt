@@ -1,0 +1,165 @@
+-- The loop of `finish`: the turns that are left lead to where all of them lead.
+use mathlib.Core.Path.{_≡_, refl, sym, ap, subst, _∙_}
+use mathlib.Core.Bool.{true}
+use mathlib.Core.List.{List}
+use Prim.Native.Nat.{ℕ, suc, _+_, _-_, _≤_, _<_}
+use native.Mathlib.Omega.{arith}
+use lib.ListN.{length}
+use Rattle.book.specs.declared.Shape.{Shape}
+use Rattle.book.specs.declared.Process.{Process}
+use Rattle.book.specs.Bounds.{mostProcesses}
+use Rattle.line_theory.specs.OfTables.{viewOf}
+use Rattle.session.specs.declared.Session.{Session}
+use Rattle.session.specs.Calls.{sessionStarted, strandsStarted}
+use Rattle.session.specs.Turns.{Ongoing, started, afterTurn, afterTurns}
+use Rattle.session_theory.proofs.Search.{Search, IsSearch}
+use Rattle.session_theory.proofs.Facts.{few}
+use Rattle.demand3.specs.Statement.{messageWaits, mostDelivered}
+use Rattle.searches.specs.Lowest.{strandsInside, lowestWaiting, toEnd, searched}
+use Rattle.searches.specs.Search.{searchQuestion}
+use Rattle.searches.specs.Parts.{Started}
+use Rattle.searches.proofs.Begin.{startOf, start-delivered, room-inside}
+use Rattle.searches.proofs.Lowest.{found-some, found-none}
+use Rattle.searches.proofs.Along.{Runs, few-delivered, next-runs, next-counts, to-end-more, to-end-done}
+use Rattle.searches.proofs.Theorems.{searchIn, is-search, begun-runs}
+
+module _ (shape : Shape) (sent received : List ℕ) where
+  -- where all turns lead from here
+  abbrev pub endOfAll : Ongoing → Ongoing
+  endOfAll o = toEnd shape sent received (mostDelivered (viewOf shape sent received)) o
+
+  -- how many turns are left
+  abbrev pub leftAt : Session → ℕ
+  leftAt s = mostDelivered (viewOf shape sent received) - s .delivered
+
+  -- from o₀ on turns have led to o, and p is the next to be named
+  pub record Finishing (o₀ o : Ongoing) (p : Process) : Type 0 where
+    pub initiator : Process
+    pub purpose : ℕ
+    pub is : IsSearch (searchIn shape sent received initiator purpose)
+    pub runs : Runs (searchIn shape sent received initiator purpose) o
+    pub lowest : p ≡ lowestWaiting (o .session)
+    pub rest : endOfAll o₀ ≡ toEnd shape sent received (leftAt (o .session)) o
+
+  pub finishing-none : (s : Session) (strands : List ℕ) (p : Process) → Started shape sent received s strands → p ≡ lowestWaiting s
+      → Finishing (record { session = s; strands = strands }) (record { session = s; strands = strands }) p
+  finishing-none s strands p a e =
+      let g : Search = searchIn shape sent received (a .initiator) (a .purpose) in
+      let is : IsSearch g = is-search shape sent received (a .initiator) (a .purpose) (a .long) (a .accepted) in
+      let left : startOf g strandsInside ≡ record { session = s; strands = strands } = rw (a .session-left, a .strands-left) refl in
+      let none : s .delivered ≡ 0 =
+      ap (λ (x : Session). x .delivered) (a .session-left)
+      ∙ start-delivered g is strandsInside (room-inside (shape .n) (few g is)) in
+      record {
+        initiator = a .initiator;
+        purpose = a .purpose;
+        is = is;
+        runs =
+            subst (λ (o : Ongoing). Runs g o) left
+            (begun-runs shape sent received (a .initiator) (a .purpose) (a .long) (a .accepted));
+        lowest = e;
+        rest =
+            let all : mostDelivered (viewOf shape sent received) ≡ leftAt s = omega (arith, none) in
+            ap (λ (left : ℕ). toEnd shape sent received left (record { session = s; strands = strands })) all;
+      }
+
+  module _ (o₀ o : Ongoing) (p : Process) (f : Finishing o₀ o p) where
+    abbrev g : Search
+    g = searchIn shape sent received (f .initiator) (f .purpose)
+
+    -- a turn more: it is counted, so that fewer are left
+    module _ (some : p .0 ≡ 0 → ⊥) where
+      waits : messageWaits (o .session) ≡ true
+      waits =
+          let first : 1 ≤ p .0 = omega arith in
+          found-some (o .session) (subst (λ (q : Process). 1 ≤ q .0) (f .lowest) first)
+
+      abbrev next : Ongoing
+      next = afterTurn shape sent received o p
+
+      same-next : afterTurn shape sent received o (lowestWaiting (o .session)) ≡ next
+      same-next = ap (λ (q : Process). afterTurn shape sent received o q) (sym (f .lowest))
+
+      counts : next .session .delivered ≡ o .session .delivered + 1
+      counts = ap (λ (u : Ongoing). u .session .delivered) (sym same-next) ∙ next-counts g (f .is) o (f .runs) waits
+
+      runs-on : Runs g next
+      runs-on = subst (λ (u : Ongoing). Runs g u) same-next (next-runs g (f .is) o (f .runs))
+
+      finishing-less : leftAt (next .session) < leftAt (o .session)
+      finishing-less = omega (arith, counts, few-delivered g next runs-on)
+
+      finishing-more : (q : Process) → q ≡ lowestWaiting (next .session) → Finishing o₀ next q
+      finishing-more q e =
+          let one : leftAt (o .session) ≡ suc (leftAt (next .session)) = omega (arith, counts, few-delivered g next runs-on) in
+          record {
+            initiator = f .initiator;
+            purpose = f .purpose;
+            is = f .is;
+            runs = runs-on;
+            lowest = e;
+            rest =
+                f .rest
+                ∙ ap (λ (left : ℕ). toEnd shape sent received left o) one
+                ∙ to-end-more shape sent received o (leftAt (next .session)) waits
+                ∙ ap (λ (u : Ongoing). toEnd shape sent received (leftAt (next .session)) u) same-next;
+          }
+
+      -- as a call of `turn` leaves it
+      module _
+          (s : Session)
+          (strands : List ℕ)
+          (session-left : s ≡ next .session)
+          (strands-left : strands ≡ next .strands)
+        where
+          pub turn-less : leftAt s < leftAt (o .session)
+          turn-less = rw session-left finishing-less
+
+          pub turn-more : (q : Process) → q ≡ lowestWaiting s → Finishing o₀ (record { session = s; strands = strands }) q
+          turn-more q e = rw (session-left, strands-left) (finishing-more q (e ∙ ap lowestWaiting session-left))
+
+    -- nothing waits any more
+    pub finishing-all : p .0 ≡ 0 → endOfAll o₀ ≡ o
+    finishing-all none =
+        f .rest
+        ∙ to-end-done shape sent received o (leftAt (o .session))
+        (found-none (o .session) (sym (ap (λ (q : Process). q .0) (f .lowest)) ∙ none))
+
+-- ---- a session started inside
+
+module _
+    (shape : Shape)
+    (sent received : List ℕ)
+    (initiator : Process)
+    (purpose : ℕ)
+    (lent : List ℕ)
+    (s : Session)
+    (strands : List ℕ)
+    (inside : lent ≡ strandsInside)
+    (session-left : s ≡ sessionStarted shape sent received initiator purpose lent)
+    (strands-left : strands ≡ strandsStarted shape sent received initiator purpose lent)
+  where
+    pub started-is : _≡_ {A = Ongoing} (record { session = s; strands = strands }) (started shape sent received initiator purpose strandsInside)
+    started-is = rw (session-left, strands-left, inside)
+
+    pub started-inside : length (shape .counts) ≡ mostProcesses → searchQuestion shape sent received initiator purpose ≡ 0
+        → Started shape sent received s strands
+    started-inside long accepted =
+        record {
+          initiator = initiator;
+          purpose = purpose;
+          long = long;
+          accepted = accepted;
+          session-left = ap (λ (o : Ongoing). o .session) started-is;
+          strands-left = ap (λ (o : Ongoing). o .strands) started-is;
+        }
+
+    pub finished-inside : (r : Session) → r ≡ endOfAll shape sent received (record { session = s; strands = strands }) .session
+        → r ≡ searched shape sent received initiator purpose .session
+    unfolding searched
+    finished-inside r e = e ∙ ap (λ (o : Ongoing). endOfAll shape sent received o .session) started-is
+
+    pub taken-inside : (turns : List Process) (r : Session)
+        → r ≡ afterTurns shape sent received (record { session = s; strands = strands }) turns .session
+        → r ≡ afterTurns shape sent received (started shape sent received initiator purpose strandsInside) turns .session
+    taken-inside turns r e = e ∙ ap (λ (o : Ongoing). afterTurns shape sent received o turns .session) started-is

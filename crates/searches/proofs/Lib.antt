@@ -1,0 +1,9 @@
+pub mod Begin
+pub mod Lowest
+pub mod Along
+pub mod Ends
+pub mod Theorems
+pub mod Finishing
+pub mod Running
+pub mod Sets
+pub mod Answers

@@ -1,0 +1,151 @@
+-- The set of checkpoints that a search ends on.
+use mathlib.Core.Path.{_≡_, refl, ap, _∙_}
+use mathlib.Core.Bool.{Bool, true, false}
+use mathlib.Core.List.{List}
+use Prim.Native.Nat.{ℕ, suc, _+_, _-_, _*_, _≤_, _<_}
+use native.Mathlib.Numerals.{add-one}
+use native.Mathlib.Omega.{arith}
+use borrow.Author.Tests.{lt-ltb, eq-eqb, ne-eqb}
+use lib.ListN.{length, getD, set, length-set}
+use lib.Dec.{eqb}
+use Rattle.book.specs.declared.Shape.{Shape}
+use Rattle.book.specs.declared.Checkpoint.{Checkpoint}
+use Rattle.book.specs.Bounds.{mark}
+use Rattle.book.specs.View.{count}
+use Rattle.book.proofs.Sums.{sum-more, sum-take}
+use Rattle.line_theory.specs.Over.{sumTo}
+use Rattle.line_theory.specs.Sets.{passed}
+use Rattle.line_theory.proofs.Over.{sum-ext, getD-tab, length-tab}
+use Rattle.line_theory.proofs.Theorems.{line-is-line}
+use Rattle.line_theory.proofs.Accepted.{accepted-few}
+use Rattle.consistency.specs.Set.{chosen}
+use Rattle.consistency.proofs.Fills.{fill-more}
+use Rattle.finder.specs.Line.{checkpoints}
+use Rattle.finder.proofs.Sixteen.{checkpoints-are}
+use Rattle.matrix.specs.Matrix.{pick}
+use Rattle.participant.specs.declared.Participant.{Participant}
+use Rattle.participant.specs.Calls.{noParticipant}
+use Rattle.initiator.specs.declared.Initiator.{Initiator}
+use Rattle.session_steps.proofs.Places.{at-place}
+use Rattle.session_steps.proofs.Steps.{beyond}
+use Rattle.session_theory.proofs.Search.{Search, IsSearch, size, viewIn}
+use Rattle.session_theory.proofs.Facts.{few, book-is}
+use Rattle.searches.specs.Parts.{Among}
+use Rattle.searches.proofs.Begin.{restarts}
+use Rattle.searches.proofs.Ends.{endIn}
+
+-- ---- sixteen checkpoints
+
+pub chosen-there : (c : ℕ → ℕ) (j : ℕ) → j < 16 → chosen (checkpoints c) j ≡ c j
+unfolding checkpoints
+chosen-there c j small =
+    let f : ℕ → Checkpoint = λ i. record { 0 = c i } in
+    ap (λ (r : Checkpoint). r .0) (getD-tab 16 f j (record { 0 = 0 }) small)
+
+checkpoints-long : (c : ℕ → ℕ) → length (checkpoints c) ≡ 16
+unfolding checkpoints
+checkpoints-long c = let f : ℕ → Checkpoint = λ i. record { 0 = c i } in length-tab 16 f
+
+pub checkpoints-same : (c d : ℕ → ℕ) → ((j : ℕ) → j < 16 → c j ≡ d j) → checkpoints c ≡ checkpoints d
+checkpoints-same c d same =
+    checkpoints-are (checkpoints c) d (checkpoints-long c) (λ j small. chosen-there c j small ∙ same j small)
+
+-- where everybody stands, from a session's parts
+abbrev pub standsBy : List Participant → Initiator → ℕ → ℕ → ℕ
+standsBy participants machine own j =
+    pick (eqb j own) (machine .candidate .0) (getD participants j noParticipant .candidate .0)
+
+-- filled up to a place
+pub record Filled (c : ℕ → ℕ) (l : List Checkpoint) (k : ℕ) : Type 0 where
+  pub within : k ≤ 16
+  pub long : length l ≡ 16
+  pub so-far : (j : ℕ) → j < k → chosen l j ≡ c j
+
+module _ (c : ℕ → ℕ) (l : List Checkpoint) where
+  pub filled-none : length l ≡ 16 → Filled c l 0
+  filled-none long = record { within = omega arith; long = long; so-far = λ j h. absurd (omega arith) }
+
+  pub filled-more : (k : ℕ) (r : Checkpoint) → Filled c l k → k < 16 → r .0 ≡ c k → Filled c (set l k r) (k + 1)
+  filled-more k r filled small here =
+      let P : ℕ → Checkpoint → Type 0 = λ j v. v .0 ≡ c j in
+      record {
+        within = omega arith;
+        long = simp length-set (filled .long);
+        so-far = fill-more P (record { 0 = 0 }) l k r (omega (arith, filled .long)) (filled .so-far) here;
+      }
+
+  pub filled-all : (k : ℕ) → Filled c l k → 16 ≤ k → l ≡ checkpoints c
+  filled-all k filled all = checkpoints-are l c (filled .long) (λ j small. filled .so-far j (omega arith))
+
+-- where a process stands, by whether it is the initiator; the place is one of the list, so that what stands beyond does not matter
+module _ (participants : List Participant) (machine : Initiator) (own j : ℕ) where
+  pub stands-own : j ≡ own → machine .candidate .0 ≡ standsBy participants machine own j
+  stands-own e = rw (eq-eqb j own e)
+
+  pub stands-other : (j ≡ own → ⊥) → j < length participants
+      → getD participants j beyond .candidate .0 ≡ standsBy participants machine own j
+  stands-other other small =
+      rw (ne-eqb j own other) (ap (λ (p : Participant). p .candidate .0) (at-place beyond noParticipant participants j small))
+
+-- ---- how many are newer, added up to a place
+
+pub record Added (shape : Shape) (set : List Checkpoint) (total j : ℕ) : Type 0 where
+  pub within : j ≤ shape .n
+  pub few : total ≤ 256 * j
+  pub so-far : total ≡ sumTo j (λ i. count shape i - chosen set i)
+
+module _ (shape : Shape) (set : List Checkpoint) where
+  pub added-none : Added shape set 0 0
+  unfolding sumTo
+  added-none = record { within = omega arith; few = omega arith; so-far = refl }
+
+  pub added-more : (total j : ℕ) → Among shape set → Added shape set total j → j < shape .n
+      → Added shape set (total + (count shape j - chosen set j)) (j + 1)
+  unfolding sumTo
+  added-more total j among added small =
+      let small-count : count shape j ≤ 256 = among .small j small in
+      record {
+        within = omega arith;
+        few = omega (arith, added .few, small-count);
+        so-far = rw (add-one j) (ap (λ (k : ℕ). k + (count shape j - chosen set j)) (added .so-far));
+      }
+
+  pub added-all : (total j : ℕ) → Added shape set total j → shape .n ≤ j → total ≡ sumTo (shape .n) (λ i. count shape i - chosen set i)
+  added-all total j added all =
+      let e : j ≡ shape .n = omega (arith, added .within) in
+      added .so-far ∙ ap (λ (k : ℕ). sumTo k (λ i. count shape i - chosen set i)) e
+
+-- ---- where everybody ends is among its checkpoints
+
+module _ (g : Search) (is : IsSearch g) where
+  end-among : (j : ℕ) → j < size g → endIn g j ≤ count (g .shape) j
+  end-among j small = go (restarts g) refl
+    where
+      go : (v : Bool) → restarts g ≡ v → endIn g j ≤ count (g .shape) j
+      go true e = rw (e, lt-ltb j (size g) small) (book-is g is .some j small)
+      go false e = rw e (line-is-line mark (viewIn g) (book-is g is) .is-set .among j small)
+
+  pub end-is-among : Among (g .shape) (checkpoints (endIn g))
+  end-is-among =
+      record {
+        few = few g is;
+        there =
+            λ j small.
+            let here : chosen (checkpoints (endIn g)) j ≡ endIn g j = chosen-there (endIn g) j (omega (arith, few g is)) in
+            omega (arith, here, end-among j small);
+        small =
+            λ j small.
+            omega (
+              arith,
+              sum-more (g .shape .counts) j,
+              sum-take (g .shape .counts) (suc j),
+              accepted-few (g .shape) (g .sent) (g .received) (is .long) (is .accepted),
+            );
+      }
+
+  -- how many are newer
+  pub end-passed : sumTo (size g) (λ j. count (g .shape) j - chosen (checkpoints (endIn g)) j) ≡ passed (viewIn g) (endIn g)
+  unfolding passed
+  end-passed =
+      sum-ext (size g) (λ j. count (g .shape) j - chosen (checkpoints (endIn g)) j) (λ j. count (g .shape) j - endIn g j)
+      (λ j small. ap (λ (r : ℕ). count (g .shape) j - r) (chosen-there (endIn g) j (omega (arith, few g is))))

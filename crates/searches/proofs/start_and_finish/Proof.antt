@@ -1,0 +1,57 @@
+-- `start_and_finish` meets its contract.
+use mathlib.Core.Path.{_≡_}
+use borrow.Author.Needs.{needs}
+use lib.ListN.{length}
+use Rattle.searches.proofs.Finishing.{started-inside, finished-inside}
+use Rattle.searches.proofs.start_and_finish.Statement.{statement}
+use Rattle.searches.proofs.start_and_finish.Tie as tie
+
+counts-long : (c : tie.Start) → length (c .args .shape .counts) ≡ 16
+counts-long c = search needs
+
+strands-inside-requires : tie.Need-strands-inside-requires
+strands-inside-requires c κs = search needs
+
+slice-aggregate-start : tie.Need-slice-aggregate-start
+slice-aggregate-start c = search needs
+
+start-requires : tie.Need-start-requires
+start-requires c κs = search needs
+
+slice-aggregate-finish : tie.Need-slice-aggregate-finish
+slice-aggregate-finish c = search needs
+
+finish-requires : tie.Need-finish-requires
+finish-requires c κs =
+    let s = c .before .before in
+    let i = s .before .before in
+    let b = i .before .before .before in
+    let a = b .args in
+    started-inside (a .shape) (a .sent .now) (a .received .now) (a .initiator) (a .purpose) (i .strands-inside .result)
+    (s .start .result .session) (s .start .last .1 .1 .1 .1 .1 .0) (i .strands-inside .ensures) (s .start .ensures .1 .0)
+    (s .start .ensures .1 .1)
+    (counts-long b)
+    (b .pre)
+
+returns : tie.Need-returns
+returns c =
+    let s = c .before .before .before .before in
+    let i = s .before .before in
+    let b = i .before .before .before in
+    let a = b .args in
+    finished-inside (a .shape) (a .sent .now) (a .received .now) (a .initiator) (a .purpose) (i .strands-inside .result)
+    (s .start .result .session) (s .start .last .1 .1 .1 .1 .1 .0) (i .strands-inside .ensures) (s .start .ensures .1 .0)
+    (s .start .ensures .1 .1)
+    (c .before .finish .result)
+    (c .before .finish .ensures)
+
+pub start-and-finish-spec : {M : Type 1} → statement M
+start-and-finish-spec =
+    tie.close
+    (tie.spec
+    strands-inside-requires
+    slice-aggregate-start
+    start-requires
+    slice-aggregate-finish
+    finish-requires
+    returns)
