@@ -1,6 +1,2 @@
 pub mod Pairs
-pub mod Computing
-pub mod Once
-pub mod Sessions
-pub mod Room
 pub mod Starred

@@ -4,10 +4,11 @@ use mathlib.Core.Path.{refl}
 use mathlib.Core.List.{[], _∷_}
 use native.Mathlib.Omega.{arith}
 use Rattle.book.specs.Read.{shapeRead, sentRead, receivedRead}
-use Rattle.examples.specs.Starred.{Starred, NotConsistent, holds, _also_, none, lent, setOf, k1}
-use Rattle.examples.proofs.Computing.{computing}
+use Rattle.session_examples.specs.Books.{lent, setOf, k1}
+use Rattle.session_examples.proofs.Computing.{computing}
+use Rattle.examples.specs.Starred.{Starred, NotConsistent, holds, _also_, none}
 use Rattle.examples.proofs.Pairs.{noOther, only-answer}
-use Rattle.examples.proofs.Sessions.{alone, two, k1-by-1, k1-by-2, k6-by-2}
+use Rattle.session_examples.proofs.Sessions.{alone, two, k1-by-1, k1-by-2, k6-by-2}
 
 not-consistent : holds (NotConsistent k1 (2 ∷ 2 ∷ 2 ∷ []) 1 2)
 unfolding computing noOther

@@ -1,18 +1,16 @@
 -- Document 01, "Books and sessions tried": the starred examples, in one list, and what each of them claims of the
 -- definitions that the contracts cite.
 use mathlib.Core.Path.{_≡_}
-use mathlib.Core.Bool.{Bool, false}
-use mathlib.Core.List.{List, [], _∷_, _++_}
+use mathlib.Core.List.{List, [], _∷_}
 use Prim.Native.Nat.{ℕ, _-_}
-use lib.ListN.{length, replicate, getD}
+use lib.ListN.{length}
 use Rattle.varint.specs.declared.Numeral.the-variants as numeral
 use Rattle.varint.specs.Number.{encode, readNumber}
 use Rattle.book.specs.declared.Shape.{Shape}
-use Rattle.book.specs.declared.Process.{Process}
 use Rattle.book.specs.declared.Checkpoint.{Checkpoint}
 use Rattle.book.specs.declared.Answer.{Answer}
 use Rattle.book.specs.declared.Answer.the-variants as answer
-use Rattle.book.specs.Bounds.{groups, largest, entries, mostProcesses}
+use Rattle.book.specs.Bounds.{groups, largest, mostProcesses}
 use Rattle.book.specs.Tables.{padded}
 use Rattle.book.specs.View.{S, R}
 use Rattle.book.specs.InTurn.{answerTo}
@@ -21,11 +19,9 @@ use Rattle.book.specs.Read.{noShape, readQuestion, shapeRead, sentRead, receive
 use Rattle.consistency.specs.declared.SetAnswer.{SetAnswer}
 use Rattle.consistency.specs.declared.SetAnswer.the-variants as test
 use Rattle.consistency.specs.Set.{Tested}
-use Rattle.finder.specs.Line.{checkpoints, lineFound, passedFound}
-use Rattle.session.specs.declared.Session.{Session}
-use Rattle.session.specs.Workers.{standsOn}
-use Rattle.demand3.specs.Statement.{messageWaits, someoneGoesOn}
-use Rattle.searches.specs.Lowest.{searched}
+use Rattle.finder.specs.Line.{lineFound, passedFound}
+use Rattle.session_examples.specs.Books.{lent, setOf, k1, k6, laterCounter, largestCounter}
+use Rattle.session_examples.specs.Outcome.{searchedIn, ended}
 
 -- ---- what can be claimed
 
@@ -49,17 +45,9 @@ pub data Example : Type 0 where
   -- in a book, a search by this initiator ends with all workers on this line, after so many rounds and messages
   Searched : List ℕ → ℕ → List ℕ → ℕ → ℕ → Example
 
--- the tables that a read is lent
-abbrev pub lent : List ℕ
-lent = replicate entries 0
-
 -- what a read of a book answers, with the shape beside it
 abbrev pub answered : List ℕ → Answer × Shape
 answered book = (answerTo (readQuestion book lent lent), shapeRead book lent lent)
-
--- a set of checkpoints, absent processes zero
-abbrev pub setOf : List ℕ → List Checkpoint
-setOf numbers = checkpoints (λ j. getD numbers j 0)
 
 -- what holds of an answer to a test of a set, in the tables of a book
 abbrev pub answers : List ℕ → List ℕ → SetAnswer → Type 0
@@ -72,34 +60,6 @@ found book =
     let sent : List ℕ = sentRead book lent lent in
     let received : List ℕ = receivedRead book lent lent in
     (answerTo (tablesQuestion shape sent received), lineFound shape sent received, passedFound shape sent received)
-
--- what a session has come to
-pub record Outcome : Type 0 where
-  -- where each worker stands, absent processes zero
-  pub stand : List Checkpoint
-  pub rounds : ℕ
-  pub messages : ℕ
-  -- some worker has not ended; a message waits
-  pub goesOn : Bool
-  pub waits : Bool
-
-abbrev pub outcomeOf : ℕ → Session → Outcome
-outcomeOf n s =
-    record {
-      stand = checkpoints (standsOn s);
-      rounds = s .machine .rounds;
-      messages = s .delivered;
-      goesOn = someoneGoesOn n s;
-      waits = messageWaits s;
-    }
-
--- what the session comes to that purpose 3 begins in the tables of a book, lowest waiting strand first: the session itself,
--- turn by turn, on strands of bytes
-abbrev pub searchedIn : List ℕ → ℕ → Outcome
-searchedIn book initiator =
-    let shape : Shape = shapeRead book lent lent in
-    let by : Process = record { 0 = initiator } in
-    outcomeOf (shape .n) (searched shape (sentRead book lent lent) (receivedRead book lent lent) by 3 .session)
 
 abbrev pub holds : Example → Type 0
 holds (HasBytes n bytes) = encode n ≡ bytes
@@ -114,8 +74,7 @@ holds (NotConsistent book set j p) =
     answers book set shown × ((answer : SetAnswer) → answers book set answer → answer ≡ shown)
 holds (HasLine book line passed) = found book ≡ (answer.Accepted, setOf line, passed)
 holds (Searched book initiator line rounds messages) =
-    searchedIn book initiator
-    ≡ record { stand = setOf line; rounds = rounds; messages = messages; goesOn = false; waits = false }
+    searchedIn book initiator ≡ ended line rounds messages
 
 -- all of a list hold
 infixr 5 _also_
@@ -124,28 +83,6 @@ pub data Hold : List Example → Type 0 where
   _also_ : {example : Example} {more : List Example} → holds example → Hold more → Hold (example ∷ more)
 
 -- ---- the examples
-
--- K example 1
-abbrev pub k1 : List ℕ
-k1 =
-    0x03 ∷ 0x02 ∷ 0x00 ∷ 0x00 ∷ 0x00 ∷ 0x00 ∷ 0x00 ∷ 0x00 ∷ 0x04 ∷ 0x05
-    ∷ 0x02 ∷ 0x00 ∷ 0x00 ∷ 0x00 ∷ 0x00 ∷ 0x03 ∷ 0x00 ∷ 0x00 ∷ 0x00
-    ∷ 0x02 ∷ 0x00 ∷ 0x00 ∷ 0x00 ∷ 0x00 ∷ 0x07 ∷ 0x00 ∷ 0x00 ∷ 0x00 ∷ []
-
--- K example 6
-abbrev pub k6 : List ℕ
-k6 =
-    0x03 ∷ 0x04 ∷ 0x00 ∷ 0x00 ∷ 0x00 ∷ 0x00 ∷ 0x00 ∷ 0x01 ∷ 0x00 ∷ 0x00 ∷ 0x01 ∷ 0x01 ∷ 0x01 ∷ 0x00 ∷ 0x02 ∷ 0x01 ∷ 0x02 ∷ 0x00
-    ∷ 0x04 ∷ 0x00 ∷ 0x00 ∷ 0x00 ∷ 0x00 ∷ 0x00 ∷ 0x00 ∷ 0x01 ∷ 0x00 ∷ 0x01 ∷ 0x00 ∷ 0x02 ∷ 0x00 ∷ 0x02 ∷ 0x00 ∷ 0x03 ∷ 0x00
-    ∷ 0x02 ∷ 0x00 ∷ 0x00 ∷ 0x00 ∷ 0x00 ∷ 0x00 ∷ 0x00 ∷ 0x01 ∷ 0x00 ∷ []
-
--- two processes, the first with two checkpoints: these bytes are what the later one has sent the second process
-abbrev pub laterCounter : List ℕ → List ℕ
-laterCounter bytes = 0x02 ∷ 0x02 ∷ 0x00 ∷ 0x00 ∷ (bytes ++ (0x00 ∷ 0x01 ∷ 0x00 ∷ 0x00 ∷ []))
-
--- FE FF FF FF 0F
-abbrev pub largestCounter : List ℕ
-largestCounter = 0xFE ∷ 0xFF ∷ 0xFF ∷ 0xFF ∷ 0x0F ∷ []
 
 abbrev pub starred : List Example
 starred =

@@ -9,7 +9,7 @@ use Rattle.book.specs.declared.Process.{Process}
 use Rattle.strands.specs.Strands.{roomForAll}
 use Rattle.session.specs.Workers.{waitsOn}
 use Rattle.demand3.specs.Statement.{Beginning, IsAccepted, Searches, shapeIn, after, nextQuestion}
-use Rattle.examples.specs.Starred.{lent, k1}
+use Rattle.session_examples.specs.Books.{lent, k1}
 
 -- K example 1, searched by process 1 with purpose 3, on strands with room for all messages
 abbrev pub realBook : Beginning

@@ -6,9 +6,9 @@ use native.Mathlib.Omega.{arith}
 use lib.ListN.{replicate}
 use Rattle.book.specs.declared.Process.{Process}
 use Rattle.demand3.specs.Statement.{Beginning}
-use Rattle.examples.specs.Starred.{lent, laterCounter, largestCounter}
-use Rattle.examples.specs.Room.{RealBook, FewerCanFail}
-use Rattle.examples.proofs.Computing.{computing}
+use Rattle.session_examples.specs.Books.{lent, laterCounter, largestCounter}
+use Rattle.session_examples.specs.Room.{RealBook, FewerCanFail}
+use Rattle.session_examples.proofs.Computing.{computing}
 
 pub real-book : RealBook
 unfolding computing

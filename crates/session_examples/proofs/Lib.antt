@@ -1,0 +1,4 @@
+pub mod Computing
+pub mod Once
+pub mod Sessions
+pub mod Room
