@@ -22,26 +22,8 @@ use Rattle.session_theory.proofs.Search.{Search, IsSearch, size, lead, isPart, 
 use Rattle.session_theory.proofs.Invariant.{Laid, Phase, quiet, reported, asked, weight, one}
 use Rattle.session_theory.proofs.Facts.{worker, part-within, book-is}
 use Rattle.session_theory.proofs.Search as theory
-use Rattle.demand3.specs.Statement.{
-  Beginning,
-  shapeIn,
-  sentIn,
-  receivedIn,
-  viewIn,
-  IsAccepted,
-  Searches,
-  atStart,
-  after,
-  nextQuestion,
-  messageWaits,
-  someoneGoesOn,
-  newer,
-  mostDelivered,
-  HoldsAfter,
-  Demand3,
-}
+use Rattle.demand3.specs.Statement.{Beginning, shapeIn, sentIn, receivedIn, viewIn, IsAccepted, Searches, atStart, after, nextQuestion, messageWaits, someoneGoesOn, newer, mostDelivered, HoldsAfter, Demand3}
 use Rattle.demand3.specs.Beside.{AtEnd, acceptedIn, GoesOn}
-use Rattle.demand3.proofs.Pieces.{Pieces}
 use Rattle.demand3.proofs.Kept.{Kept, answers, room-answers}
 use Rattle.demand3.proofs.Lists.{Listed, listed}
 use Rattle.demand3.proofs.Searching.{InSearch, search-kept, waits-tell, over-tell}
@@ -52,7 +34,6 @@ use Rattle.demand3.proofs.Exactly.{waits-found, going-exactly, over-exa
 -- ---- what holds of a session at any moment of a search
 
 module _
-    (pieces : Pieces)
     (g : Search)
     (is : IsSearch g)
     (searches : isSearch (g .purpose) ≡ true)
@@ -66,10 +47,10 @@ module _
     exactly : InSearch g s box → messageWaits s ≡ someoneGoesOn (size g) s
     exactly (inl w) =
         going-exactly g is s (o .strands) box laid (w .0) (w .1) (w .2)
-        (waits-tell pieces g is searches s (o .strands) box (w .0) (w .1) (w .2) .some)
+        (waits-tell g is searches s (o .strands) box (w .0) (w .1) (w .2) .some)
     exactly (inr f) =
         over-exactly g is s (o .strands) box laid (f .0) (f .1 .ends)
-        (over-tell pieces g is searches s (o .strands) box (f .0) (f .1) .some)
+        (over-tell g is searches s (o .strands) box (f .0) (f .1) .some)
 
     few-delivered : InSearch g s box → s .delivered ≤ most g
     few-delivered (inl w) = omega (arith, w .2 .deliveries-left)
@@ -115,7 +96,7 @@ module _
             absurd (omega (arith, f .1 .deliveries-left, sum-at 16 (λ q. one (f .0 q)) j (part-within g is j there)))
         at there false e = closed-ended g is s box (f .0) (f .1 .ends) j there e
 
-module _ (pieces : Pieces) (b : Beginning) (a : IsAccepted b) (h : Searches b) (turns : List Process) where
+module _ (b : Beginning) (a : IsAccepted b) (h : Searches b) (turns : List Process) where
   abbrev g : Search
   g = searchOf b
 
@@ -126,10 +107,10 @@ module _ (pieces : Pieces) (b : Beginning) (a : IsAccepted b) (h : Searches b) (
   is = is-search b a
 
   kept : Kept g (InSearch g)
-  kept = search-kept pieces g is (searching b a h)
+  kept = search-kept g is (searching b a h)
 
   all : Listed g (InSearch g) (atStart b) turns
-  all = listed pieces g is (InSearch g) kept turns (atStart b) (search-holds b a pieces h)
+  all = listed g is (InSearch g) kept turns (atStart b) (search-holds b a h)
 
   abbrev now : InSearch g (o .session) (all .holds .box)
   now = all .holds .state
@@ -138,7 +119,7 @@ module _ (pieces : Pieces) (b : Beginning) (a : IsAccepted b) (h : Searches b) (
   is-line = line-is-line mark (viewIn b) (book-is g is)
 
   long : length (o .strands) ≡ length (b .strands)
-  long = all .long ∙ search-long b a pieces h
+  long = all .long ∙ search-long b a h
 
   counted : o .session .delivered ≡ acceptedTurns (shapeIn b) (sentIn b) (receivedIn b) (atStart b) turns
   counted = omega (arith, all .delivered, start-delivered b a)
@@ -147,23 +128,23 @@ module _ (pieces : Pieces) (b : Beginning) (a : IsAccepted b) (h : Searches b) (
       (p : Process) → 1 ≤ p .0 → waitsOn (o .session) (p .0 - 1) ≡ true
       → roomForAll (shapeIn b .n) ≤ length (b .strands) → nextQuestion b turns p ≡ 0
   with-room p some waits room =
-      room-answers pieces g is (InSearch g) kept o (all .holds) p some waits (omega (arith, long, room))
+      room-answers g is (InSearch g) kept o (all .holds) p some waits (omega (arith, long, room))
 
   holds-after : HoldsAfter b turns
   holds-after =
       let sure : isSearch (b .purpose) ≡ true = searching b a h in
       record {
-        waits-exactly = exactly pieces g is sure o (all .holds .box) (all .holds .laid) now;
+        waits-exactly = exactly g is sure o (all .holds .box) (all .holds .laid) now;
         delivered = counted;
-        few-delivered = few-delivered pieces g is sure o (all .holds .box) (all .holds .laid) now;
+        few-delivered = few-delivered g is sure o (all .holds .box) (all .holds .laid) now;
         rounds = omega (arith, all .rounds, start-rounds b a h);
-        few-rounds = few-rounds pieces g is sure o (all .holds .box) (all .holds .laid) now;
-        none-below = none-below pieces g is sure o (all .holds .box) (all .holds .laid) now;
-        ended-on-line = on-line pieces g is sure o (all .holds .box) (all .holds .laid) now;
+        few-rounds = few-rounds g is sure o (all .holds .box) (all .holds .laid) now;
+        none-below = none-below g is sure o (all .holds .box) (all .holds .laid) now;
+        ended-on-line = on-line g is sure o (all .holds .box) (all .holds .laid) now;
         line-set = is-line .is-set;
         line-consistent = is-line .pairwise;
         latest = is-line .latest;
-        accepted-or-full = λ p some waits. answers pieces g is (InSearch g) kept o (all .holds) p some waits;
+        accepted-or-full = λ p some waits. answers g is (InSearch g) kept o (all .holds) p some waits;
         with-room = with-room;
       }
 
@@ -188,17 +169,16 @@ module _ (pieces : Pieces) (b : Beginning) (a : IsAccepted b) (h : Searches b) (
         → (hasEnded (o .session) j ≡ true) × (standsOn (o .session) j ≡ line (viewIn b) j)
     ends many j small =
         let ended : hasEnded (o .session) j ≡ true =
-        all-over pieces g is (searching b a h) o (all .holds .box) (all .holds .laid) now (omega (arith, counted, many)) j small in
+        all-over g is (searching b a h) o (all .holds .box) (all .holds .laid) now (omega (arith, counted, many)) j small in
         (ended, holds-after .ended-on-line j small ended)
 
-module _ (pieces : Pieces) where
-  pub demand-3 : Demand3
-  demand-3 b a h turns = holds-after pieces b a h turns
+pub demand-3 : Demand3
+demand-3 b a h turns = holds-after b a h turns
 
-  pub goes-on : GoesOn
-  goes-on b a h room turns = goes pieces b a h turns room
+pub goes-on : GoesOn
+goes-on b a h room turns = goes b a h turns room
 
-  -- where as many turns were accepted as can be
-  pub comes-to-end : (b : Beginning) → IsAccepted b → Searches b → roomForAll (shapeIn b .n) ≤ length (b .strands)
-      → (turns : List Process) → mostDelivered (viewIn b) ≤ acceptedIn b turns → AtEnd b turns
-  comes-to-end b a h room turns many j small = ends pieces b a h turns room many j small
+-- where as many turns were accepted as can be
+pub comes-to-end : (b : Beginning) → IsAccepted b → Searches b → roomForAll (shapeIn b .n) ≤ length (b .strands)
+    → (turns : List Process) → mostDelivered (viewIn b) ≤ acceptedIn b turns → AtEnd b turns
+comes-to-end b a h room turns many j small = ends b a h turns room many j small

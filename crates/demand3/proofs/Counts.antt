@@ -2,7 +2,7 @@
 use mathlib.Core.Path.{_≡_, refl, sym, ap, _∙_}
 use mathlib.Core.Bool.{Bool, true, false, not, _&&_, _||_, true≢false}
 use mathlib.Core.List.{List}
-use Prim.Native.Nat.{ℕ, zero, suc, _+_, _<_}
+use Prim.Native.Nat.{ℕ, suc, _+_, _<_}
 use native.Mathlib.Omega.{arith}
 use borrow.Author.Tests.{eqb-true, not-false}
 use lib.ListN.{length}
@@ -22,6 +22,7 @@ use Rattle.initiator.specs.declared.Initiator.{Initiator}
 use Rattle.initiator.specs.Begin.{wait}
 use Rattle.initiator.specs.Step.{senderOf, awaits, takeReport, stepBack, polled, poll, terminate, compare, step}
 use Rattle.initiator.specs.Calls.{readBy, messageQuestion}
+use Rattle.machine_laws.proofs.Newest.{all-ext}
 use Rattle.participant.specs.Calls as participant
 use Rattle.machine_laws.proofs.Calls.{three-yes}
 use Rattle.initiator_laws.specs.Accepts.{sendsPoll}
@@ -35,11 +36,6 @@ use Rattle.session.specs.Held.{senderIn, endsSearch, heldUp, heldDown, held, is
 use Rattle.session.specs.Steps.{deliverDown, deliverUp, deliver}
 use Rattle.session_fit.proofs.Read.{sent-by}
 use Rattle.session_theory.proofs.Search.{Search, size}
-
-all-same : (k : ℕ) (f g : ℕ → Bool) → ((i : ℕ) → i < k → f i ≡ g i) → allTo k f ≡ allTo k g
-unfolding allTo
-all-same zero f g same = refl
-all-same (suc k) f g same = rw (all-same k f g (λ i h. same i (omega arith)), same k (omega arith))
 
 not-not : (a : Bool) → not (not a) ≡ a
 not-not true = refl
@@ -61,7 +57,7 @@ module _ (state : Initiator) (m : Message) where
   unfolding someone takeReport
   last-taken =
       let left : ℕ → Bool = λ q. flag (state .awaited) q && not (eqb q (senderOf m)) in
-      all-same 16 (λ q. not (flag (state .awaited) q) || eqb q (senderOf m)) (λ q. not (flag (tab 16 left) q))
+      all-ext 16 (λ q. not (flag (state .awaited) q) || eqb q (senderOf m)) (λ q. not (flag (tab 16 left) q))
       (λ q h. sym (ap not (getD-tab 16 left q false h) ∙ not-and (flag (state .awaited) q) (eqb q (senderOf m))))
       ∙ sym (not-not (allTo 16 (λ q. not (flag (tab 16 left) q))))
 

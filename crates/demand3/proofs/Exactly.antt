@@ -14,17 +14,7 @@ use Rattle.session_theory.proofs.Search.{Search, IsSearch, size, lead, isPart}
 use Rattle.session_theory.proofs.Invariant.{Laid, Phase, quiet, Waits, Ends}
 use Rattle.session_theory.proofs.Facts.{lead-in, worker, part-in, part-within}
 use Rattle.demand3.specs.Statement.{messageWaits, someoneGoesOn}
-use Rattle.demand3.proofs.Workers.{
-  none-waits,
-  box-waits,
-  box-empty,
-  none-ended,
-  somebody,
-  initiator-ended,
-  open-going,
-  closed-ended,
-  closed-empty,
-}
+use Rattle.demand3.proofs.Workers.{none-waits, box-waits, box-empty, none-ended, somebody, initiator-ended, open-going, closed-ended, closed-empty}
 
 -- ---- some message waits
 
@@ -75,7 +65,7 @@ module _
         (e : Ends g s box open′)
         (some : (k : ℕ) → isPart g k ≡ true → open′ k ≡ true → 1 ≤ length (box k))
       where
-        pub open-waits : (k : ℕ) → isPart g k ≡ true → open′ k ≡ true → waitsOn s k ≡ true
+        open-waits : (k : ℕ) → isPart g k ≡ true → open′ k ≡ true → waitsOn s k ≡ true
         open-waits k there o = box-waits g s strands box laid k there (some k there o)
 
         pub closed-waits : (k : ℕ) → isPart g k ≡ true → open′ k ≡ false → waitsOn s k ≡ false

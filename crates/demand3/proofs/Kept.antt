@@ -11,7 +11,7 @@ use lib.ListN.{length, set}
 use Rattle.book.specs.declared.Process.{Process}
 use Rattle.matrix.specs.Matrix.{pick}
 use Rattle.mail.specs.declared.Outgoing.{Outgoing}
-use Rattle.mail.specs.Outgoing.{goesTo, bytesTo}
+use Rattle.mail.specs.Outgoing.{goesTo}
 use Rattle.strands.specs.Strands.{slotSize, roomForAll, haveRoom}
 use Rattle.session.specs.declared.Session.{Session}
 use Rattle.session.specs.declared.Turned.{Turned}
@@ -21,28 +21,11 @@ use Rattle.session.specs.Turns.{Ongoing, turnAccepted}
 use Rattle.session_theory.proofs.Search.{Search, IsSearch, size, lead, isPart}
 use Rattle.session_theory.proofs.Invariant.{Placed, Laid, boxAfter}
 use Rattle.session_theory.proofs.Moves.{Passes, ToParticipants, Short}
+use Rattle.session_theory.proofs.Boxes.{box-sent}
 use Rattle.strand_laws.proofs.Posted.{room-out}
-use Rattle.demand3.proofs.Pieces.{Pieces}
+use Rattle.strand_laws.proofs.Theorems.{laid-after, room-suffices}
 use Rattle.demand3.proofs.Workers.{none-waits, box-waits, box-empty}
-use Rattle.demand3.proofs.Turn.{
-  questionOf,
-  nextOf,
-  goes,
-  Refused,
-  refuse,
-  Accepted,
-  Before,
-  isNamedPart,
-  named-part,
-  part-named,
-  unnamed,
-  empty,
-  no-room,
-  accept,
-}
-
-pub box-sent : (o : Outgoing) (k : ℕ) (box : ℕ → List ℕ) (q : ℕ) → goesTo o q ≡ true → boxAfter o k box q ≡ bytesTo o q
-box-sent o k box q sent = rw sent
+use Rattle.demand3.proofs.Turn.{questionOf, nextOf, goes, Refused, refuse, Accepted, Before, isNamedPart, named-part, part-named, unnamed, empty, no-room, accept}
 
 room-none : (n i : ℕ) (o : Outgoing) (strands : List ℕ) → ((q : ℕ) → q < 16 → goesTo o q ≡ false) → haveRoom n i o strands ≡ true
 room-none n i o strands none = room-out n i o strands (λ k small sent. absurd (true≢false (sym sent ∙ none k small)))
@@ -88,7 +71,7 @@ pub record Moved (g : Search) (Inv : Session → (ℕ → List ℕ) → Type 0) 
       (boxAfter (goes g (o .session) (p .0 - 1) (box (p .0 - 1)) .outgoing) (p .0 - 1) box)
   pub long : length (nextOf g o p .strands) ≡ length (o .strands)
 
-module _ (pieces : Pieces) (g : Search) (is : IsSearch g) (Inv : Session → (ℕ → List ℕ) → Type 0) (kept : Kept g Inv) where
+module _ (g : Search) (is : IsSearch g) (Inv : Session → (ℕ → List ℕ) → Type 0) (kept : Kept g Inv) where
   module _ (o : Ongoing) (holds : Holds g Inv o) where
     abbrev s : Session
     s = o .session
@@ -126,7 +109,7 @@ module _ (pieces : Pieces) (g : Search) (is : IsSearch g) (Inv : Session → (�
 
       moved : (named : isNamedPart g p ≡ true) → Delivery g Inv s (holds .box) k → Accepted g o p t → Moved g Inv o p (holds .box)
       moved named d a =
-          let laid = pieces .laid-after g s t (o .strands) (holds .box) k is (named-part g p named) (placed-in .all-lengths)
+          let laid = laid-after g s t (o .strands) (holds .box) k is (named-part g p named) (placed-in .all-lengths)
           (holds .laid) (ap (λ (i : Process). i .0) (placed-in .leader))
           (ap (λ (i : Process). i .0) (d .delivers .leader ∙ placed-in .leader)) (d .delivers .lengths) (d .to-parts)
           (short-sent d) (a .room) in
@@ -225,7 +208,7 @@ module _ (pieces : Pieces) (g : Search) (is : IsSearch g) (Inv : Session → (�
         pub room-answers : roomForAll (size g) ≤ length (o .strands) → questionOf g o p ≡ 0
         room-answers long =
             accept g is o p (holds .box) before named waits
-            (pieces .room-suffices g (t .outgoing) (o .strands) is (delivery .to-parts) (short-sent delivery) long) .question
+            (room-suffices g (t .outgoing) (o .strands) is (delivery .to-parts) (short-sent delivery) long) .question
 
         -- a message that makes nobody send needs no room
         pub silent-answers : ((q : ℕ) → q < 16 → goesTo (t .outgoing) q ≡ false) → questionOf g o p ≡ 0

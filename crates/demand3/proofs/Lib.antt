@@ -1,4 +1,3 @@
-pub mod Pieces
 pub mod Turn
 pub mod Workers
 pub mod Kept

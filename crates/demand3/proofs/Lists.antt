@@ -17,7 +17,6 @@ use Rattle.session.specs.Held.{held, isReport, waitingBytes}
 use Rattle.session.specs.Steps.{withPosted}
 use Rattle.session.specs.Turns.{Ongoing, afterTurns, turnAccepted, acceptedTurns, waitBegins, waitsBegun}
 use Rattle.session_theory.proofs.Search.{Search, IsSearch, size}
-use Rattle.demand3.proofs.Pieces.{Pieces}
 use Rattle.demand3.proofs.Turn.{questionOf, nextOf, goes, Refused, named-part}
 use Rattle.demand3.proofs.Kept.{Kept, Holds, Moved, turn, holds-next, long-next, counted}
 use Rattle.demand3.proofs.Counts.{lastAwaited, rounds-does}
@@ -45,7 +44,7 @@ posted-machine t = refl
 begins-if : (accepted begins : Bool) → accepted ≡ true → (accepted && begins) ≡ begins
 begins-if accepted begins h = rw h
 
-module _ (pieces : Pieces) (g : Search) (is : IsSearch g) (Inv : Session → (ℕ → List ℕ) → Type 0) (kept : Kept g Inv) where
+module _ (g : Search) (is : IsSearch g) (Inv : Session → (ℕ → List ℕ) → Type 0) (kept : Kept g Inv) where
   module _ (o : Ongoing) (holds : Holds g Inv o) (p : Process) where
     abbrev s : Session
     s = o .session
@@ -60,7 +59,7 @@ module _ (pieces : Pieces) (g : Search) (is : IsSearch g) (Inv : Session → (�
         ⊎-elim
         (λ (r : Refused g o p). rw (r .session, ne-eqb (questionOf g o p) 0 (r .question)) (omega arith))
         (λ (m : Moved g Inv o p (holds .box)). moved m)
-        (turn pieces g is Inv kept o holds p)
+        (turn g is Inv kept o holds p)
       where
         moved : Moved g Inv o p (holds .box)
             → nextOf g o p .session .machine .rounds
@@ -87,10 +86,10 @@ module _ (pieces : Pieces) (g : Search) (is : IsSearch g) (Inv : Session → (�
   unfolding afterTurns acceptedTurns waitsBegun
   listed [] o holds = record { holds = holds; long = refl; delivered = omega arith; rounds = omega arith }
   listed (p ∷ turns) o holds =
-      let rest = listed turns (nextOf g o p) (holds-next pieces g is Inv kept o holds p) in
+      let rest = listed turns (nextOf g o p) (holds-next g is Inv kept o holds p) in
       record {
         holds = rest .holds;
-        long = rest .long ∙ long-next pieces g is Inv kept o holds p;
-        delivered = omega (arith, rest .delivered, counted pieces g is Inv kept o holds p);
+        long = rest .long ∙ long-next g is Inv kept o holds p;
+        delivered = omega (arith, rest .delivered, counted g is Inv kept o holds p);
         rounds = omega (arith, rest .rounds, rounds-next o holds p);
       }

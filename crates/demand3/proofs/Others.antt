@@ -6,15 +6,14 @@ use mathlib.Core.Logic.{⊎-elim}
 use Prim.Native.Nat.{ℕ, _-_, _<_}
 use borrow.Author.Tests.{ne-eqb}
 use Rattle.book.specs.declared.Process.{Process}
-use Rattle.line_theory.proofs.Over.{getD-tab}
-use Rattle.message.specs.declared.Head.{Head}
 use Rattle.mail.specs.declared.Outgoing.{Outgoing}
 use Rattle.mail.specs.Outgoing.{goesTo}
 use Rattle.machine.specs.Own.{ownOf}
-use Rattle.machine.specs.Sends.{otherHead, nothing}
+use Rattle.machine.specs.Sends.{otherHead}
 use Rattle.participant.specs.Step as participant
 use Rattle.participant.specs.Calls as participant-calls
 use Rattle.participant_laws.specs.Accepts.{endsIt}
+use Rattle.participant_laws.proofs.Report.{nothing-goes}
 use Rattle.participant_laws.proofs.Theorems.{end-is-silent}
 use Rattle.session.specs.declared.Session.{Session}
 use Rattle.session.specs.declared.Waiting.{Waiting}
@@ -27,20 +26,16 @@ use Rattle.session_theory.proofs.Search.{Search, IsSearch, size, isPart}
 use Rattle.session_theory.proofs.Invariant.{boxAfter}
 use Rattle.session_theory.proofs.Facts.{part-within}
 use Rattle.session_theory.proofs.Moves.{goesDown}
-use Rattle.search_turns.proofs.Strand.{strand-goes, strand-silent, box-kept}
+use Rattle.session_theory.proofs.Boxes.{box-kept}
+use Rattle.search_turns.proofs.Strand.{strand-goes, strand-silent}
 use Rattle.demand3.specs.Statement.{atStart, after}
 use Rattle.demand3.specs.Beside.{LeavesOthers}
-use Rattle.demand3.proofs.Pieces.{Pieces}
 use Rattle.demand3.proofs.Turn.{nextOf, goes, Refused, named-part}
 use Rattle.demand3.proofs.Kept.{Kept, Holds, Moved, turn}
 use Rattle.demand3.proofs.Counts.{lastAwaited, does, report-silent}
 use Rattle.demand3.proofs.Lists.{listed}
 use Rattle.demand3.proofs.Searching.{InSearch, search-kept}
 use Rattle.demand3.proofs.Start.{searchOf, is-search, searching, search-holds}
-
-nothing-goes : (head : Head) (q : ℕ) → q < 16 → goesTo (nothing head) q ≡ false
-unfolding nothing
-nothing-goes head q h = getD-tab 16 (λ p. false) q false h
 
 -- what participant k sends goes on its own strand
 strand-other : (k initiator : ℕ) (o : Outgoing) (q : ℕ) → q < 16 → (q ≡ k → ⊥) → goesTo (onStrand k initiator o) q ≡ false
@@ -91,7 +86,7 @@ box-left g s k box q small other none =
     box-kept (goes g s k (box k) .outgoing) k box q
     (does-other g s k (box k) q small (held (size g) s k (box k)) refl none other) other
 
-module _ (pieces : Pieces) (g : Search) (is : IsSearch g) (Inv : Session → (ℕ → List ℕ) → Type 0) (kept : Kept g Inv) where
+module _ (g : Search) (is : IsSearch g) (Inv : Session → (ℕ → List ℕ) → Type 0) (kept : Kept g Inv) where
   module _ (o : Ongoing) (holds : Holds g Inv o) (p : Process) (k : ℕ) where
     abbrev j : ℕ
     j = p .0 - 1
@@ -107,7 +102,7 @@ module _ (pieces : Pieces) (g : Search) (is : IsSearch g) (Inv : Session → (�
         ⊎-elim
         (λ (r : Refused g o p). rw (r .session, r .strands))
         (λ (m : Moved g Inv o p box). moved m)
-        (turn pieces g is Inv kept o holds p)
+        (turn g is Inv kept o holds p)
       where
         moved : Moved g Inv o p box
             → waitingBytes (size g) (nextOf g o p .session) (nextOf g o p .strands) k
@@ -120,11 +115,10 @@ module _ (pieces : Pieces) (g : Search) (is : IsSearch g) (Inv : Session → (�
             ∙ box-left g (o .session) j box k (part-within g is k there) other silent
             ∙ sym (holds .laid k there .bytes)
 
-module _ (pieces : Pieces) where
-  pub leaves-others : LeavesOthers
-  leaves-others b a h turns p k there other none =
-      let g : Search = searchOf b in
-      let is : IsSearch g = is-search b a in
-      let kept : Kept g (InSearch g) = search-kept pieces g is (searching b a h) in
-      let all = listed pieces g is (InSearch g) kept turns (atStart b) (search-holds b a pieces h) in
-      others-left pieces g is (InSearch g) kept (after b turns) (all .holds) p k there other none
+pub leaves-others : LeavesOthers
+leaves-others b a h turns p k there other none =
+    let g : Search = searchOf b in
+    let is : IsSearch g = is-search b a in
+    let kept : Kept g (InSearch g) = search-kept g is (searching b a h) in
+    let all = listed g is (InSearch g) kept turns (atStart b) (search-holds b a h) in
+    others-left g is (InSearch g) kept (after b turns) (all .holds) p k there other none

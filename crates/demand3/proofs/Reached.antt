@@ -14,21 +14,8 @@ use Rattle.matrix.specs.Matrix.{pick}
 use Rattle.strands.specs.Strands.{roomForAll}
 use Rattle.session.specs.Workers.{hasEnded}
 use Rattle.session.specs.Turns.{Ongoing, afterTurn, afterTurns, turnAccepted, acceptedTurns}
-use Rattle.demand3.specs.Statement.{
-  Beginning,
-  shapeIn,
-  sentIn,
-  receivedIn,
-  viewIn,
-  IsAccepted,
-  Searches,
-  atStart,
-  after,
-  nextQuestion,
-  mostDelivered,
-}
+use Rattle.demand3.specs.Statement.{Beginning, shapeIn, sentIn, receivedIn, viewIn, IsAccepted, Searches, atStart, after, nextQuestion, mostDelivered}
 use Rattle.demand3.specs.Beside.{AtEnd, EndIsReached}
-use Rattle.demand3.proofs.Pieces.{Pieces}
 use Rattle.demand3.proofs.Claims.{demand-3, goes-on, comes-to-end}
 
 -- one turn more is counted where it is accepted
@@ -43,7 +30,6 @@ accepted-more shape sent received (q ∷ turns) o p =
     omega (arith, accepted-more shape sent received turns (afterTurn shape sent received o q) p)
 
 module _
-    (pieces : Pieces)
     (b : Beginning)
     (a : IsAccepted b)
     (h : Searches b)
@@ -64,15 +50,15 @@ module _
     )
 
     reached : (left : ℕ) (turns : List Process) → mostDelivered (viewIn b) ≤ accepted turns + left → Reached turns
-    reached zero turns many = at-once turns (comes-to-end pieces b a h room turns (omega arith))
+    reached zero turns many = at-once turns (comes-to-end b a h room turns (omega arith))
     reached (suc left) turns many =
         ⊎-elim
         (λ (all : (j : ℕ) → j < shapeIn b .n → hasEnded (after b turns .session) j ≡ true).
-        at-once turns (λ j small. (all j small, demand-3 pieces b a h turns .ended-on-line j small (all j small))))
+        at-once turns (λ j small. (all j small, demand-3 b a h turns .ended-on-line j small (all j small))))
         (λ (next : (p : Process) × (nextQuestion b turns p ≡ 0)).
         go (next .0) (next .1)
         (reached left (turns ++ (next .0 ∷ [])) (omega (arith, one-more (next .0) (next .1), many))))
-        (goes-on pieces b a h room turns)
+        (goes-on b a h room turns)
       where
         one-more : (p : Process) → nextQuestion b turns p ≡ 0 → accepted (turns ++ (p ∷ [])) ≡ accepted turns + 1
         one-more p e =
@@ -88,9 +74,8 @@ module _
           subst (λ (l : List Process). AtEnd b l) (append-assoc turns (p ∷ []) (r .0)) (r .2),
         )
 
-module _ (pieces : Pieces) where
-  pub end-is-reached : EndIsReached
-  end-is-reached b a h room turns =
-      let r = reached pieces b a h room (mostDelivered (viewIn b)) turns (omega arith) in
-      let all = demand-3 pieces b a h (turns ++ r .0) in
-      (r .0, r .1, omega (arith, r .1, all .few-delivered, all .delivered), r .2)
+pub end-is-reached : EndIsReached
+end-is-reached b a h room turns =
+    let r = reached b a h room (mostDelivered (viewIn b)) turns (omega arith) in
+    let all = demand-3 b a h (turns ++ r .0) in
+    (r .0, r .1, omega (arith, r .1, all .few-delivered, all .delivered), r .2)

@@ -2,10 +2,8 @@
 use mathlib.Core.Path.{_≡_, refl, sym, ap, subst, _∙_}
 use mathlib.Core.Bool.{Bool, true, false, true≢false}
 use mathlib.Core.List.{List}
-use mathlib.Core.Logic.{⊎-elim}
 use Prim.Native.Nat.{ℕ, _-_, _≤_, _<_}
 use native.Mathlib.Omega.{arith}
-use borrow.Author.Tests.{lt-ltb, eq-eqb}
 use Rattle.book.specs.declared.Process.{Process}
 use Rattle.line_theory.proofs.Over.{sum-at}
 use Rattle.matrix.specs.Matrix.{pick}
@@ -16,23 +14,22 @@ use Rattle.session.specs.declared.Turned.{Turned}
 use Rattle.session.specs.declared.Waiting.the-variants.{Nothing, Ending}
 use Rattle.session.specs.Workers.{standsOn, hasEnded, waitsOn}
 use Rattle.session.specs.Turns.{Ongoing, acceptedTurns}
-use Rattle.session_theory.proofs.Search.{Search, IsSearch, size, lead, isPart}
+use Rattle.session_theory.proofs.Search.{Search, IsSearch, size, isPart}
 use Rattle.session_theory.proofs.Invariant.{one, Closing, IsEnding, Restarts}
-use Rattle.session_theory.proofs.Facts.{few, lead-in, worker}
+use Rattle.session_theory.proofs.Facts.{few, lead-in}
 use Rattle.session_theory.proofs.Moves.{goesDown}
 use Rattle.demand3.specs.Statement.{Beginning, shapeIn, sentIn, receivedIn, IsAccepted, atStart, after, nextQuestion}
 use Rattle.demand3.specs.Beside.{RestartHolds, RestartEnds}
-use Rattle.demand3.proofs.Pieces.{Pieces}
 use Rattle.demand3.proofs.Turn.{goes}
 use Rattle.demand3.proofs.Kept.{Kept, silent-answers, waits-part}
 use Rattle.demand3.proofs.Lists.{Listed, listed}
 use Rattle.demand3.proofs.Searching.{InRestart, restart-kept, restart-tell, goes-as}
 use Rattle.demand3.proofs.Start.{searchOf, is-search, start-delivered, restart-holds}
-use Rattle.demand3.proofs.Workers.{open-going}
+use Rattle.demand3.proofs.Workers.{ended-closed}
 use Rattle.demand3.proofs.Exactly.{closed-waits, all-closed}
 use Rattle.demand3.proofs.Others.{end-silent}
 
-module _ (pieces : Pieces) (b : Beginning) (a : IsAccepted b) (h : b .purpose ≡ 2) (turns : List Process) where
+module _ (b : Beginning) (a : IsAccepted b) (h : b .purpose ≡ 2) (turns : List Process) where
   abbrev g : Search
   g = searchOf b
 
@@ -46,10 +43,10 @@ module _ (pieces : Pieces) (b : Beginning) (a : IsAccepted b) (h : b .purpose �
   is = is-search b a
 
   kept : Kept g (InRestart g)
-  kept = restart-kept pieces g is h
+  kept = restart-kept g is h
 
   all : Listed g (InRestart g) (atStart b) turns
-  all = listed pieces g is (InRestart g) kept turns (atStart b) (restart-holds b a pieces h)
+  all = listed g is (InRestart g) kept turns (atStart b) (restart-holds b a h)
 
   abbrev box : ℕ → List ℕ
   box = all .holds .box
@@ -64,16 +61,7 @@ module _ (pieces : Pieces) (b : Beginning) (a : IsAccepted b) (h : b .purpose �
   counted = omega (arith, all .delivered, start-delivered b a)
 
   on-oldest : (j : ℕ) → j < size g → hasEnded s j ≡ true → standsOn s j ≡ 1
-  on-oldest j small ended =
-      now .on-oldest j small
-      (⊎-elim
-      (λ (l : j ≡ lead g). now .ends .rest j (omega (arith, few g is, small)) (rw (lt-ltb j (size g) small, eq-eqb j (lead g) l)))
-      (λ (there : isPart g j ≡ true). at there (open′ j) refl)
-      (worker g j small))
-    where
-      at : isPart g j ≡ true → (v : Bool) → open′ j ≡ v → open′ j ≡ false
-      at there true e = absurd (true≢false (sym ended ∙ open-going g is s box open′ (now .ends) j there e))
-      at there false e = e
+  on-oldest j small ended = now .on-oldest j small (ended-closed g is s box open′ (now .ends) j small ended)
 
   -- as many as there are participants: nothing is on its way any more
   closed : s .delivered ≡ size g - 1 → (k : ℕ) → k < 16 → open′ k ≡ false
@@ -90,7 +78,7 @@ module _ (pieces : Pieces) (b : Beginning) (a : IsAccepted b) (h : b .purpose �
     k = p .0 - 1
 
     there : isPart g k ≡ true
-    there = waits-part pieces g is (InRestart g) kept o (all .holds) k waits
+    there = waits-part g is (InRestart g) kept o (all .holds) k waits
 
     still : open′ k ≡ true
     still = at (open′ k) refl
@@ -100,7 +88,7 @@ module _ (pieces : Pieces) (b : Beginning) (a : IsAccepted b) (h : b .purpose �
         at false e =
             absurd (true≢false (sym waits
             ∙ closed-waits g is s (o .strands) box (all .holds .laid) open′ (now .ends)
-            (restart-tell pieces g is h s (o .strands) box open′ now .some) k there e))
+            (restart-tell g is h s (o .strands) box open′ now .some) k there e))
 
     ending : IsEnding g s k (box k)
     ending = subst (λ (v : Bool). Closing g s k (box k) v) still (now .ends .closing k there)
@@ -108,7 +96,7 @@ module _ (pieces : Pieces) (b : Beginning) (a : IsAccepted b) (h : b .purpose �
     taken : goes g s k (box k) ≡ goesDown g s k (box k)
     taken =
         goes-as g s k (box k) Ending
-        (restart-tell pieces g is h s (o .strands) box open′ now .holds k there
+        (restart-tell g is h s (o .strands) box open′ now .holds k there
         ∙ ap (λ (v : Bool). pick v Ending Nothing) still)
 
     silent : (q : ℕ) → q < 16 → goesTo (goes g s k (box k) .outgoing) q ≡ false
@@ -119,7 +107,7 @@ module _ (pieces : Pieces) (b : Beginning) (a : IsAccepted b) (h : b .purpose �
         (ap endsIt (ending .read) ∙ ending .ending)
 
     accepted : nextQuestion b turns p ≡ 0
-    accepted = silent-answers pieces g is (InRestart g) kept o (all .holds) p some waits silent
+    accepted = silent-answers g is (InRestart g) kept o (all .holds) p some waits silent
 
   holds-restart : RestartHolds b turns
   holds-restart =
@@ -131,10 +119,9 @@ module _ (pieces : Pieces) (b : Beginning) (a : IsAccepted b) (h : b .purpose �
         all-ended =
             λ many.
             all-closed g is s (o .strands) box (all .holds .laid) open′ (now .ends)
-            (restart-tell pieces g is h s (o .strands) box open′ now .some) (closed (counted ∙ many));
+            (restart-tell g is h s (o .strands) box open′ now .some) (closed (counted ∙ many));
         accepted = accepted;
       }
 
-module _ (pieces : Pieces) where
-  pub restart-ends : RestartEnds
-  restart-ends b a h turns = holds-restart pieces b a h turns
+pub restart-ends : RestartEnds
+restart-ends b a h turns = holds-restart b a h turns

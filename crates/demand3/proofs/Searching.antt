@@ -17,25 +17,13 @@ use Rattle.session.specs.declared.Waiting.the-variants.{Nothing, Asking, Ending
 use Rattle.session.specs.Held.{held}
 use Rattle.session.specs.Steps.{deliverDown, deliverUp, deliver, withPosted}
 use Rattle.session_theory.proofs.Search.{Search, IsSearch, size, isPart}
-use Rattle.session_theory.proofs.Invariant.{
-  Placed,
-  Laid,
-  boxAfter,
-  Phase,
-  quiet,
-  reported,
-  asked,
-  InPhase,
-  Waits,
-  Closing,
-  Finished,
-  Restarts,
-  Going,
-  Over,
-}
+use Rattle.session_theory.proofs.Invariant.{Placed, Laid, boxAfter, Phase, quiet, reported, asked, InPhase, Waits, Closing, Finished, Restarts, Going, Over}
 use Rattle.session_theory.proofs.Facts.{few}
 use Rattle.session_theory.proofs.Moves.{Passes, goesDown, goesUp, ToParticipants, WaitsTell, EndsTell, holding}
-use Rattle.demand3.proofs.Pieces.{Pieces}
+use Rattle.session_theory.proofs.Few.{most-few}
+use Rattle.session_fit.proofs.Theorems.{waits-fit, ends-fit}
+use Rattle.search_turns.proofs.Theorems.{down-goes, end-goes}
+use Rattle.search_rounds.proofs.Theorems.{up-goes}
 use Rattle.demand3.proofs.Turn.{goes}
 use Rattle.demand3.proofs.Kept.{Delivers, Delivery, Kept}
 
@@ -71,15 +59,15 @@ module _ (g : Search) (s : Session) (k : ℕ) where
         after = subst (λ (t : Turned). Inv (withPosted t) (boxAfter (t .outgoing) k box)) (sym e) after;
       }
 
-module _ (pieces : Pieces) (g : Search) (is : IsSearch g) where
+module _ (g : Search) (is : IsSearch g) where
   module _ (searching : isSearch (g .purpose) ≡ true) where
     module _ (s : Session) (strands : List ℕ) (box : ℕ → List ℕ) where
       pub waits-tell : (phase : ℕ → Phase) (ahead : ℕ) → Waits g s box phase ahead → WaitsTell g s strands box phase
-      waits-tell phase ahead w = pieces .waits-fit g s strands box phase ahead is searching w
+      waits-tell phase ahead w = waits-fit g s strands box phase ahead is searching w
 
       pub over-tell : (open′ : ℕ → Bool) → Finished g s box open′ → EndsTell g s strands box open′
       over-tell open′ f =
-          pieces .ends-fit g s strands box open′ is (omega (arith, f .deliveries-left, pieces .most-few g is)) (f .ends)
+          ends-fit g s strands box open′ is (omega (arith, f .deliveries-left, most-few g is)) (f .ends)
 
     module _ (s : Session) (box : ℕ → List ℕ) (k : ℕ) (there : isPart g k ≡ true) where
       abbrev Result : Type 0
@@ -90,7 +78,7 @@ module _ (pieces : Pieces) (g : Search) (is : IsSearch g) where
           inl (subst (λ (f : Phase). InPhase g s k (box k) f) e (w .in-phase k there) .empty)
       waits-moves phase ahead w reported e =
           let told = waits-tell s [] box phase ahead w in
-          let next = pieces .up-goes g s box phase ahead k is searching w there e in
+          let next = up-goes g s box phase ahead k is searching w there e in
           inr (delivery g s k (InSearch g) box (goesUp g s k (box k))
           (goes-as g s k (box k) Report (told .holds k there ∙ ap holding e))
           (told .some k there (λ q. reported-quiet (sym e ∙ q))) (up-delivers g s k (box k)) (next .0) (next .1))
@@ -99,7 +87,7 @@ module _ (pieces : Pieces) (g : Search) (is : IsSearch g) where
           reported-quiet q = let z : _≡_ {A = ℕ} 0 1 = cc in omega arith
       waits-moves phase ahead w asked e =
           let told = waits-tell s [] box phase ahead w in
-          let next = pieces .down-goes g s box phase ahead k is searching w there e in
+          let next = down-goes g s box phase ahead k is searching w there e in
           inr (delivery g s k (InSearch g) box (goesDown g s k (box k))
           (goes-as g s k (box k) Asking (told .holds k there ∙ ap holding e))
           (told .some k there (λ q. asked-quiet (sym e ∙ q))) (down-delivers g s k (box k)) (next .0)
@@ -113,7 +101,7 @@ module _ (pieces : Pieces) (g : Search) (is : IsSearch g) where
           inl (subst (λ (v : Bool). Closing g s k (box k) v) e (f .ends .closing k there) .empty)
       over-moves open′ f true e =
           let told = over-tell s [] box open′ f in
-          let next = pieces .end-goes g s box open′ k is (f .ends) there e in
+          let next = end-goes g s box open′ k is (f .ends) there e in
           inr (delivery g s k (InSearch g) box (goesDown g s k (box k))
           (goes-as g s k (box k) Ending (told .holds k there ∙ ap (λ (v : Bool). pick v Ending Nothing) e))
           (told .some k there e) (down-delivers g s k (box k)) (next .0)
@@ -147,7 +135,7 @@ module _ (pieces : Pieces) (g : Search) (is : IsSearch g) where
       restart-tell open′ r =
           let size-few : size g ≤ 16 = few g is in
           let d = r .deliveries in
-          pieces .ends-fit g s strands box open′ is (omega arith) (r .ends)
+          ends-fit g s strands box open′ is (omega arith) (r .ends)
 
     module _ (s : Session) (box : ℕ → List ℕ) (k : ℕ) (there : isPart g k ≡ true) where
       restart-moves : (open′ : ℕ → Bool) → Restarts g s box open′ → (v : Bool) → open′ k ≡ v
@@ -156,7 +144,7 @@ module _ (pieces : Pieces) (g : Search) (is : IsSearch g) where
           inl (subst (λ (v : Bool). Closing g s k (box k) v) e (r .ends .closing k there) .empty)
       restart-moves open′ r true e =
           let told = restart-tell s [] box open′ r in
-          let next = pieces .end-goes g s box open′ k is (r .ends) there e in
+          let next = end-goes g s box open′ k is (r .ends) there e in
           inr (delivery g s k (InRestart g) box (goesDown g s k (box k))
           (goes-as g s k (box k) Ending (told .holds k there ∙ ap (λ (v : Bool). pick v Ending Nothing) e))
           (told .some k there e) (down-delivers g s k (box k)) (next .0)

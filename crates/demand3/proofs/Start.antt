@@ -1,6 +1,6 @@
 -- What a list of turns begins with: an accepted start on accepted tables.
 use mathlib.Core.Path.{_≡_, refl, sym, ap, _∙_}
-use mathlib.Core.Bool.{Bool, true, false, not}
+use mathlib.Core.Bool.{Bool, true, false}
 use mathlib.Core.List.{List}
 use mathlib.Core.Logic.{_⊎_, inl, inr}
 use Prim.Native.Nat.{ℕ, _-_}
@@ -14,7 +14,6 @@ use Rattle.book.specs.InTurn.{_then_, ask}
 use Rattle.book.specs.Check.{tablesQuestion}
 use Rattle.book.specs.Read.{bookRead}
 use Rattle.book.specs.Tables.{countsOf}
-use Rattle.line_theory.proofs.Over.{all-out, getD-tab}
 use Rattle.book.proofs.Questions.{then-none, asked-yes, kept-passed}
 use Rattle.round_trips.proofs.Zeros.{length-padded}
 use Rattle.round_trips.proofs.ToTables.{length-countsOf}
@@ -25,7 +24,7 @@ use Rattle.matrix.specs.Matrix.{pick}
 use Rattle.message.specs.Formed.{isNamed, isPurpose}
 use Rattle.mail.specs.Outgoing.{bytesTo}
 use Rattle.machine.specs.Own.{Own}
-use Rattle.machine.specs.Flags.{flag, someone, participants, nobody}
+use Rattle.machine.specs.Flags.{someone, participants, nobody}
 use Rattle.initiator.specs.Begin.{wait, idle, search, begin}
 use Rattle.exchange_laws.specs.Ends.{isSearch}
 use Rattle.strands.specs.Strands.{haveRoom, posted}
@@ -35,9 +34,12 @@ use Rattle.session.specs.Calls.{noSession, startQuestion, sessionStarted, stran
 use Rattle.session_theory.proofs.Search.{Search, IsSearch, size, lead, ownIn}
 use Rattle.session_theory.proofs.Invariant.{Laid}
 use Rattle.session_theory.proofs.Moves.{begins, ToParticipants}
+use Rattle.machine_laws.proofs.Flags.{flagged-none}
+use Rattle.search_start.proofs.Alone.{flag-nobody}
 use Rattle.search_start.proofs.Start.{none-delivered}
 use Rattle.demand3.specs.Statement.{Beginning, shapeIn, sentIn, receivedIn, IsAccepted, Searches, atStart, startWaits}
-use Rattle.demand3.proofs.Pieces.{Pieces}
+use Rattle.strand_laws.proofs.Theorems.{laid-begun}
+use Rattle.search_start.proofs.Theorems.{search-begins, restart-begins}
 use Rattle.demand3.proofs.Kept.{Kept, Holds}
 use Rattle.demand3.proofs.Searching.{InSearch, InRestart, search-kept, restart-kept}
 
@@ -62,8 +64,7 @@ module _ (tables : ℕ) (named purposed room : Bool) where
       (asked-yes 9 named (b .0), asked-yes 10 purposed (c .0), asked-yes 16 room (c .1))
 
 none-awaited : someone nobody ≡ false
-unfolding someone
-none-awaited = ap not (all-out 16 (λ p. not (flag nobody p)) (λ p h. ap not (getD-tab 16 (λ q. false) p false h)))
+none-awaited = flagged-none nobody flag-nobody
 
 -- a search's first round is counted where somebody is awaited after the start
 first-round : (own : Own) (me : Process) (purpose : ℕ) → eqb purpose 2 ≡ false
@@ -138,50 +139,49 @@ module _ (b : Beginning) (a : IsAccepted b) where
   pub start-rounds : Searches b → atStart b .session .machine .rounds ≡ startWaits b
   start-rounds h = rw session-left (one-round g (no-restart (b .purpose) h))
 
-  module _ (pieces : Pieces) where
-    module _
-        (Inv : Session → (ℕ → List ℕ) → Type 0)
-        (kept : Kept g Inv)
-        (to-parts : ToParticipants g (begins g .outgoing))
-        (holds : Inv (withPosted (begins g)) (bytesTo (begins g .outgoing)))
-      where
-        abbrev left : Session
-        left = withPosted (begins g)
+  module _
+      (Inv : Session → (ℕ → List ℕ) → Type 0)
+      (kept : Kept g Inv)
+      (to-parts : ToParticipants g (begins g .outgoing))
+      (holds : Inv (withPosted (begins g)) (bytesTo (begins g .outgoing)))
+    where
+      abbrev left : Session
+      left = withPosted (begins g)
 
-        laid :
-            Laid g left (posted (size g) (lead g) (begins g .outgoing) (b .strands)) (bytesTo (begins g .outgoing))
-            × (length (posted (size g) (lead g) (begins g .outgoing) (b .strands)) ≡ length (b .strands))
-        laid =
-            pieces .laid-begun g (b .strands) is-search to-parts
-            (λ k small sent. kept .short left (bytesTo (begins g .outgoing)) holds k (to-parts k small sent))
-            (asked .2)
+      laid :
+          Laid g left (posted (size g) (lead g) (begins g .outgoing) (b .strands)) (bytesTo (begins g .outgoing))
+          × (length (posted (size g) (lead g) (begins g .outgoing) (b .strands)) ≡ length (b .strands))
+      laid =
+          laid-begun g (b .strands) is-search to-parts
+          (λ k small sent. kept .short left (bytesTo (begins g .outgoing)) holds k (to-parts k small sent))
+          (asked .2)
 
-        start-holds : Holds g Inv (atStart b)
-        start-holds =
-            record {
-              box = bytesTo (begins g .outgoing);
-              laid = rw (session-left, strands-left) (laid .0);
-              state = rw session-left holds;
-            }
+      start-holds : Holds g Inv (atStart b)
+      start-holds =
+          record {
+            box = bytesTo (begins g .outgoing);
+            laid = rw (session-left, strands-left) (laid .0);
+            state = rw session-left holds;
+          }
 
-        start-long : length (atStart b .strands) ≡ length (b .strands)
-        start-long = ap length strands-left ∙ laid .1
+      start-long : length (atStart b .strands) ≡ length (b .strands)
+      start-long = ap length strands-left ∙ laid .1
 
-    module _ (h : Searches b) where
-      kept-here : Kept g (InSearch g)
-      kept-here = search-kept pieces g is-search (searching h)
+  module _ (h : Searches b) where
+    kept-here : Kept g (InSearch g)
+    kept-here = search-kept g is-search (searching h)
 
-      pub search-holds : Holds g (InSearch g) (atStart b)
-      search-holds =
-          let first = pieces .search-begins g is-search (searching h) in
-          start-holds (InSearch g) kept-here (first .0) (first .1)
+    pub search-holds : Holds g (InSearch g) (atStart b)
+    search-holds =
+        let first = search-begins g is-search (searching h) in
+        start-holds (InSearch g) kept-here (first .0) (first .1)
 
-      pub search-long : length (atStart b .strands) ≡ length (b .strands)
-      search-long =
-          let first = pieces .search-begins g is-search (searching h) in
-          start-long (InSearch g) kept-here (first .0) (first .1)
+    pub search-long : length (atStart b .strands) ≡ length (b .strands)
+    search-long =
+        let first = search-begins g is-search (searching h) in
+        start-long (InSearch g) kept-here (first .0) (first .1)
 
-    pub restart-holds : b .purpose ≡ 2 → Holds g (InRestart g) (atStart b)
-    restart-holds h =
-        let first = pieces .restart-begins g is-search h in
-        start-holds (InRestart g) (restart-kept pieces g is-search h) (first .0) (first .1)
+  pub restart-holds : b .purpose ≡ 2 → Holds g (InRestart g) (atStart b)
+  restart-holds h =
+      let first = restart-begins g is-search h in
+      start-holds (InRestart g) (restart-kept g is-search h) (first .0) (first .1)

@@ -27,7 +27,6 @@ use Rattle.session_theory.proofs.Invariant.{boxAfter, Phase, quiet, reported, a
 use Rattle.session_theory.proofs.Facts.{part-within, part-me}
 use Rattle.demand3.specs.Statement.{atStart, after}
 use Rattle.demand3.specs.Beside.{StaysUntilDelivered}
-use Rattle.demand3.proofs.Pieces.{Pieces}
 use Rattle.demand3.proofs.Workers.{box-waits}
 use Rattle.demand3.proofs.Turn.{nextOf, goes, Refused, named-part}
 use Rattle.demand3.proofs.Kept.{Kept, Holds, Moved, turn, waits-part}
@@ -70,11 +69,11 @@ module _ (g : Search) (is : IsSearch g) (s : Session) (box : ℕ → List ℕ) w
             (and-both (isReport (held (size g) s j (box j))) (lastAwaited (s .machine) j) e .1))
 
   -- and once the search is over no report waits
-  module _ (pieces : Pieces) (searches : isSearch (g .purpose) ≡ true) where
+  module _ (searches : isSearch (g .purpose) ≡ true) where
     over-last : (open′ : ℕ → Bool) → Finished g s box open′ → (j : ℕ) → isPart g j ≡ true → isLast g s j (box j) ≡ false
     over-last open′ f j named =
         no-last (held (size g) s j (box j)) (open′ j) (lastAwaited (s .machine) j)
-        (over-tell pieces g is searches s [] box open′ f .holds j named)
+        (over-tell g is searches s [] box open′ f .holds j named)
 
     not-last : InSearch g s box → (k : ℕ) → isPart g k ≡ true → 1 ≤ length (box k) → (j : ℕ) → isPart g j ≡ true
         → (k ≡ j → ⊥) → isLast g s j (box j) ≡ false
@@ -82,7 +81,6 @@ module _ (g : Search) (is : IsSearch g) (s : Session) (box : ℕ → List ℕ) w
     not-last (inr f) k there some j named other = over-last (f .0) (f .1) j named
 
 module _
-    (pieces : Pieces)
     (g : Search)
     (is : IsSearch g)
     (searches : isSearch (g .purpose) ≡ true)
@@ -106,10 +104,10 @@ module _
     next = nextOf g o p
 
     kept : Kept g (InSearch g)
-    kept = search-kept pieces g is searches
+    kept = search-kept g is searches
 
     there : isPart g k ≡ true
-    there = waits-part pieces g is (InSearch g) kept o holds k waits
+    there = waits-part g is (InSearch g) kept o holds k waits
 
     some : 1 ≤ length (box k)
     some =
@@ -124,7 +122,7 @@ module _
         let now : ℕ → List ℕ = boxAfter (goes g s j (box j) .outgoing) j box in
         let same : now k ≡ box k =
         box-left g s j box k (part-within g is k there) other
-        (not-last g is s box pieces searches (holds .state) k there some j (named-part g p (m .named)) other) in (
+        (not-last g is s box searches (holds .state) k there some j (named-part g p (m .named)) other) in (
           box-waits g (next .session) (next .strands) now (m .laid) k there (omega (arith, some, ap length same)),
           m .laid k there .bytes ∙ same ∙ sym (holds .laid k there .bytes),
         )
@@ -136,14 +134,13 @@ module _
         ⊎-elim
         (λ (r : Refused g o p). rw (r .session, r .strands) (waits, refl))
         (λ (m : Moved g (InSearch g) o p box). moved m)
-        (turn pieces g is (InSearch g) kept o holds p)
+        (turn g is (InSearch g) kept o holds p)
 
-module _ (pieces : Pieces) where
-  pub stays-until-delivered : StaysUntilDelivered
-  stays-until-delivered b a h turns p k other waits =
-      let g : Search = searchOf b in
-      let is : IsSearch g = is-search b a in
-      let sure : isSearch (g .purpose) ≡ true = searching b a h in
-      let all =
-      listed pieces g is (InSearch g) (search-kept pieces g is sure) turns (atStart b) (search-holds b a pieces h) in
-      stays pieces g is sure (after b turns) (all .holds) p k other waits
+pub stays-until-delivered : StaysUntilDelivered
+stays-until-delivered b a h turns p k other waits =
+    let g : Search = searchOf b in
+    let is : IsSearch g = is-search b a in
+    let sure : isSearch (g .purpose) ≡ true = searching b a h in
+    let all =
+    listed g is (InSearch g) (search-kept g is sure) turns (atStart b) (search-holds b a h) in
+    stays g is sure (after b turns) (all .holds) p k other waits

@@ -6,17 +6,16 @@ use mathlib.Core.Logic.{⊎-elim}
 use Prim.Native.Nat.{ℕ, _-_, _≤_, _<_}
 use native.Mathlib.Decide.{decLt}
 use native.Mathlib.Omega.{arith}
-use borrow.Author.Tests.{ne-eqb, not-true, not-false, eqb-false}
+use borrow.Author.Tests.{lt-ltb, eq-eqb, ne-eqb, eqb-false}
 use lib.ListN.{length, List·getD-eq-default}
 use lib.Dec.{eqb}
-use Rattle.line_theory.specs.Over.{allTo}
-use Rattle.line_theory.proofs.Over.{all-witness}
 use Rattle.message.specs.declared.Message.{Message}
 use Rattle.machine.specs.Own.{Own}
 use Rattle.machine.specs.Sends.{isTermination}
 use Rattle.machine.specs.Named.{isParticipant}
 use Rattle.machine.specs.Flags.{flag, someone}
 use Rattle.machine_laws.proofs.Tests.{or-second}
+use Rattle.machine_laws.proofs.Flags.{some-flagged}
 use Rattle.participant.specs.declared.Participant.{Participant}
 use Rattle.participant.specs.Step.{stepBack, reportOf, step}
 use Rattle.participant.specs.Calls.{messageQuestion}
@@ -28,20 +27,7 @@ use Rattle.session.specs.declared.Session.{Session}
 use Rattle.session.specs.Workers.{participantAt, isEnded, hasEnded, waitsOn}
 use Rattle.session_fit.proofs.Read.{read-down}
 use Rattle.session_theory.proofs.Search.{Search, IsSearch, size, lead, isPart, ownIn}
-use Rattle.session_theory.proofs.Invariant.{
-  Placed,
-  Laid,
-  Phase,
-  quiet,
-  reported,
-  asked,
-  InPhase,
-  Waits,
-  Closing,
-  IsEnding,
-  IsOver,
-  Ends,
-}
+use Rattle.session_theory.proofs.Invariant.{Placed, Laid, Phase, quiet, reported, asked, InPhase, Waits, Closing, IsEnding, IsOver, Ends}
 use Rattle.session_theory.proofs.Facts.{few, worker, part-named, ended-lead, ended-part, machine-n}
 
 -- ---- a participant's stage
@@ -116,16 +102,14 @@ module _
 
     -- and somebody's message is on its way
     pub somebody : (k : ℕ) × (isPart g k ≡ true) × (phase k ≡ quiet → ⊥)
-    unfolding someone
     somebody =
         let fit : Fit (ownIn g (lead g)) (s .machine) = fits-in (ownIn g (lead g)) (s .machine) (w .placed .machine-fits) in
         let awaited : List Bool = s .machine .awaited in
         let some : someone awaited ≡ true = or-second (s .machine .ended) (someone awaited) (fit .waits) (w .waiting) in
-        let found = all-witness 16 (λ k. not (flag awaited k)) (not-true (allTo 16 (λ k. not (flag awaited k))) some) in
+        let found = some-flagged awaited some in
         let k : ℕ = found .0 in
-        let is-awaited : flag awaited k ≡ true = not-false (flag awaited k) (found .2) in
-        let there : isPart g k ≡ true = part k (fit .only k (found .1) is-awaited) in
-        (k, there, λ q. not-quiet k there is-awaited q)
+        let there : isPart g k ≡ true = part k (fit .only k (found .1) (found .2)) in
+        (k, there, λ q. not-quiet k there (found .2) q)
       where
         part : (k : ℕ) → isParticipant (s .machine .n) (s .machine .me .0 - 1) k ≡ true → isPart g k ≡ true
         part k h = rw (machine-n g s (w .placed), w .placed .machine-me) at h
@@ -144,6 +128,18 @@ module _ (g : Search) (is : IsSearch g) (s : Session) (box : ℕ → List ℕ) (
   open-going k there o =
       let ending : IsEnding g s k (box k) = subst (λ (v : Bool). Closing g s k (box k) v) o (e .closing k there) in
       ended-part g s (e .placed .leader) k there ∙ passes-going g is s (e .placed) k there (box k) (ending .passes)
+
+  -- who has ended is not still to end
+  pub ended-closed : (j : ℕ) → j < size g → hasEnded s j ≡ true → open′ j ≡ false
+  ended-closed j small ended =
+      ⊎-elim
+      (λ (l : j ≡ lead g). e .rest j (omega (arith, few g is)) (rw (lt-ltb j (size g) small, eq-eqb j (lead g) l)))
+      (λ (there : isPart g j ≡ true). at there (open′ j) refl)
+      (worker g j small)
+    where
+      at : isPart g j ≡ true → (v : Bool) → open′ j ≡ v → open′ j ≡ false
+      at there true o = absurd (true≢false (sym ended ∙ open-going j there o))
+      at there false o = o
 
   over-at : (k : ℕ) → isPart g k ≡ true → open′ k ≡ false → IsOver g s k (box k)
   over-at k there o = subst (λ (v : Bool). Closing g s k (box k) v) o (e .closing k there)

@@ -61,7 +61,7 @@ sum-all n zero = rw (zero-add n) (sum-there n n (omega arith))
 sum-all n (suc d) =
     let e : suc d + n ≡ suc (d + n) = omega arith in rw (e, sum-all n d, le-ltb (d + n) n (omega arith)) (omega arith)
 
-count-pairs : (n j : ℕ) → j < n → n ≤ 16 → sumTo 16 (λ p. one (isPair n j p)) ≡ n - 1
+pub count-pairs : (n j : ℕ) → j < n → n ≤ 16 → sumTo 16 (λ p. one (isPair n j p)) ≡ n - 1
 unfolding there
 count-pairs n j h few =
     let pairs : ℕ → ℕ = λ p. one (isPair n j p) in

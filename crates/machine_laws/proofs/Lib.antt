@@ -5,5 +5,6 @@ pub mod Messages
 pub mod Checkpoints
 pub mod Absent
 pub mod Newest
+pub mod Flags
 pub mod Calls
 pub mod Theorems

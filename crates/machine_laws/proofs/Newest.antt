@@ -33,7 +33,7 @@ last-ext f g (suc k) same = go (f (suc k)) refl (last-ext f g k (λ s a b. same 
 
 -- ---- the newest permitted checkpoint
 
-all-ext : (k : ℕ) (f g : ℕ → Bool) → ((i : ℕ) → i < k → f i ≡ g i) → allTo k f ≡ allTo k g
+pub all-ext : (k : ℕ) (f g : ℕ → Bool) → ((i : ℕ) → i < k → f i ≡ g i) → allTo k f ≡ allTo k g
 unfolding allTo
 all-ext zero f g same = refl
 all-ext (suc k) f g same = rw (all-ext k f g (λ i h. same i (omega arith)), same k (omega arith))

@@ -95,7 +95,7 @@ module _ (own : Own) (state : Participant) where
   unfolding fits
   fits-out f = rw (eq-eqb (state .n) (own .n) (f .processes), f .there, f .row-rest, f .column-rest) (f .in-stage)
 
-  search-in : searchFits own state ≡ true → Search own state
+  pub search-in : searchFits own state ≡ true → Search own state
   unfolding searchFits
   search-in h =
       let newest : ℕ = newestPermitted own (state .column) in

@@ -30,12 +30,12 @@ use Rattle.participant_laws.proofs.Steps.{by-step}
 
 -- ---- no message, and one message
 
-nothing-goes : (head : Head) (p : ℕ) → p < 16 → goesTo (nothing head) p ≡ false
+pub nothing-goes : (head : Head) (p : ℕ) → p < 16 → goesTo (nothing head) p ≡ false
 unfolding nothing
 nothing-goes head p h = getD-tab 16 (λ p. false) p false h
 
 module _ (head : Head) (to : ℕ) (news : List Count) where
-  only-goes : (p : ℕ) → p < 16 → goesTo (onlyTo head to news) p ≡ eqb p to
+  pub only-goes : (p : ℕ) → p < 16 → goesTo (onlyTo head to news) p ≡ eqb p to
   unfolding onlyTo
   only-goes p h = getD-tab 16 (λ q. eqb q to) p false h
 

@@ -5,16 +5,9 @@ use mathlib.Core.List.{List, []}
 use mathlib.Core.Logic.{⊎-elim}
 use Prim.Native.Nat.{ℕ, _≤_, _<_}
 use native.Mathlib.Omega.{arith}
-use borrow.Author.Tests.{eqb-true}
-use lib.Dec.{eqb}
-use Rattle.book.specs.Bounds.{mark}
-use Rattle.book.proofs.Tests.{and-both}
-use Rattle.line_theory.specs.Sets.{IsLine}
 use Rattle.line_theory.specs.Search.{sentTo}
-use Rattle.line_theory.proofs.Theorems.{line-is-line}
 use Rattle.consistency.specs.Known.{counters}
 use Rattle.matrix.specs.Matrix.{entry, row, column}
-use Rattle.matrix.specs.Entries.{same}
 use Rattle.matrix.proofs.Theorems.{same-is-same}
 use Rattle.machine.specs.Own.{Own, sentRow, newestPermitted}
 use Rattle.machine_laws.proofs.Rows.{row-at, column-at, sent-at}
@@ -33,7 +26,7 @@ use Rattle.session.specs.declared.Session.{Session}
 use Rattle.session.specs.Workers.{participantAt, standsOn}
 use Rattle.session_theory.proofs.Search.{Search, IsSearch, size, lead, isPart, ownIn, viewIn, lineIn, sentIn, Between}
 use Rattle.session_theory.proofs.Invariant.{Part, Placed}
-use Rattle.session_theory.proofs.Facts.{few, lead-in, book-is, part-in, part-own, worker, stands-lead, stands-part}
+use Rattle.session_theory.proofs.Facts.{few, lead-in, book-is, line-is, part-in, part-own, worker, stands-lead, stands-part}
 use Rattle.search_rounds.proofs.Moved.{moved}
 
 -- ---- a searching participant
@@ -45,19 +38,18 @@ pub record Searches (g : Search) (q : ℕ) (p : Participant) : Type 0 where
   pub on-newest : p .candidate .0 ≡ newestPermitted (ownIn g q) (p .column)
 
 pub searches : (g : Search) (q : ℕ) (p : Participant) → Part g q p → p .stage ≡ Searching → Searches g q p
-unfolding participant.searchFits
 searches g q p part stage =
     let own : Own = ownIn g q in
     let r : ℕ = p .candidate .0 in
     let fitting = accepted.fits-in own p (part .fitting) in
     let there = checkpoint-in own r (fitting .there) in
     let fits : participant.searchFits own p ≡ true = subst (λ (t : Stage). participant.stageFits own p t ≡ true) stage (fitting .in-stage) in
-    let both = and-both (same (p .row) (sentRow own r)) (eqb r (newestPermitted own (p .column))) fits in
+    let search = accepted.search-in own p fits in
     record {
       some = there .0;
       among = there .1;
-      row-sent = λ i h. same-is-same (p .row) (sentRow own r) .0 (both .0) i h ∙ sent-at own r i h;
-      on-newest = eqb-true r (newestPermitted own (p .column)) (both .1);
+      row-sent = λ i h. same-is-same (p .row) (sentRow own r) .0 (search .row-sent) i h ∙ sent-at own r i h;
+      on-newest = search .on-newest;
     }
 
 -- ---- what holds then, of the initiator that has stepped back
@@ -110,7 +102,7 @@ module _ (g : Search) (s : Session) (k : ℕ) (box : ℕ → List ℕ) (machine 
   stands-among = by-worker (λ j r. r ≤ viewIn g .count j) (in′ .among) (λ q part. search-of q part .among)
 
   -- nobody has gone forward
-  pub stands-back : (j : ℕ) → j < size g → standsOn after j ≤ standsOn s j
+  stands-back : (j : ℕ) → j < size g → standsOn after j ≤ standsOn s j
   stands-back =
       by-worker (λ j r. r ≤ standsOn s j) (rw (stands-lead g s (placed .leader)) (in′ .back))
       (λ q part. rw (stands-part g s (placed .leader) q part) (omega arith))
@@ -128,9 +120,6 @@ module _ (g : Search) (s : Session) (k : ℕ) (box : ℕ → List ℕ) (machine 
 
   -- ---- the line
 
-  line-is : IsLine (viewIn g) (lineIn g)
-  line-is = line-is-line mark (viewIn g) (book-is g is)
-
   module _ (above : (j : ℕ) → j < size g → lineIn g j ≤ standsOn s j) where
     enough : (p : ℕ) → p < size g → sentTo (viewIn g) (lineIn g) (lead g) p ≤ counters (column (machine .matrix) (lead g)) p
     enough p h =
@@ -140,13 +129,13 @@ module _ (g : Search) (s : Session) (k : ℕ) (box : ℕ → List ℕ) (machine 
         (⊎-elim
         (λ (e : p ≡ lead g).
         rw e
-        (let none = book-is g is .own (lead g) (lineIn g (lead g)) (lead-in g is) (line-is .is-set .some (lead g) (lead-in g is))
-        (line-is .is-set .among (lead g) (lead-in g is)) .0 in
+        (let none = book-is g is .own (lead g) (lineIn g (lead g)) (lead-in g is) (line-is g is .is-set .some (lead g) (lead-in g is))
+        (line-is g is .is-set .among (lead g) (lead-in g is)) .0 in
         omega (arith, none)))
         (λ (part : isPart g p ≡ true).
         rw (part-sent p part (lead g) l)
         (sent-falls (ownIn g p) p (participantAt s p .candidate .0) (lineIn g p) (lead g) (part-own g is p part) l
-        (line-is .is-set .some p h) (rw (stands-part g s (placed .leader) p part) at (above p h)) (search-of p part .among)))
+        (line-is g is .is-set .some p h) (rw (stands-part g s (placed .leader) p part) at (above p h)) (search-of p part .among)))
         (worker g p h))
 
     pub stays-above : (j : ℕ) → j < size g → lineIn g j ≤ standsOn after j

@@ -14,7 +14,6 @@ use Rattle.book.specs.Bounds.{mark}
 use Rattle.line_theory.specs.Over.{sumTo}
 use Rattle.line_theory.specs.Sets.{View}
 use Rattle.line_theory.specs.Search.{permitted, newest, sentTo}
-use Rattle.line_theory.proofs.Over.{sum-at}
 use Rattle.line_theory.proofs.Tests.{permitted-in, permitted-out}
 use Rattle.line_theory.proofs.Theorems.{newest-is-newest, permitted-is-consistent, consistent-above-is-line}
 use Rattle.consistency.specs.Known.{counters}
@@ -26,6 +25,7 @@ use Rattle.machine.specs.Own.{newestPermitted}
 use Rattle.machine.specs.Named.{isParticipant}
 use Rattle.machine.specs.Sends.{isTermination}
 use Rattle.machine.specs.Flags.{someone}
+use Rattle.machine_laws.proofs.Flags.{none-flagged}
 use Rattle.machine_laws.proofs.Rows.{column-at}
 use Rattle.participant.specs.declared.Participant.{Participant}
 use Rattle.initiator.specs.declared.Initiator.{Initiator}
@@ -40,13 +40,15 @@ use Rattle.strands.specs.Strands.{lengthsPosted}
 use Rattle.session.specs.declared.Session.{Session}
 use Rattle.session.specs.Workers.{participantAt, standsOn}
 use Rattle.session_theory.proofs.Search.{Search, IsSearch, size, lead, isPart, ownIn, viewIn, lineIn, newer, most}
-use Rattle.session_theory.proofs.Invariant.{Part, Phase, reported, weight, one, IsReported, boxAfter, Waits, IsEnding, Closing, Finished}
+use Rattle.session_theory.proofs.Invariant.{Part, Phase, reported, one, IsReported, boxAfter, Waits, IsEnding, Closing, Finished}
 use Rattle.session_theory.proofs.Moves.{ToParticipants}
-use Rattle.session_theory.proofs.Facts.{few, book-is, lead-in, part-in, part-within, part-me, machine-n}
-use Rattle.search_rounds.proofs.Moved.{moved, Moves, posted-box, placed-moved}
+use Rattle.session_theory.proofs.Counting.{count-parts}
+use Rattle.session_theory.proofs.Boxes.{box-new}
+use Rattle.session_theory.proofs.Facts.{few, book-is, lead-in, part-in, part-within, part-me}
+use Rattle.search_rounds.proofs.Moved.{moved, Moves, placed-moved}
 use Rattle.search_rounds.proofs.Arrives.{Arrived}
 use Rattle.search_rounds.proofs.AllIn.{AllIn, searches, by-worker, stands-some, stands-among, sent, stays-above}
-use Rattle.search_rounds.proofs.Settles.{none-flagged, settled}
+use Rattle.search_rounds.proofs.Settles.{leads-back, report-counts, settled}
 use Rattle.search_rounds.proofs.Receivers.{Gets, Leads, gets, searches-with, not-polled-same}
 
 -- a checkpoint that is the newest permitted by what the set has sent is permitted by it
@@ -65,8 +67,7 @@ module _ (g : Search) (s : Session) (box : ℕ → List ℕ) (phase : ℕ → Ph
     (is-reported : phase k ≡ reported) (m : Message) (arrived : Arrived g s k (box k) m)
     (none : someone (takeReport (s .machine) m .awaited) ≡ false)
     (nobody : someone (polled (stepBack (ownIn g (lead g)) (takeReport (s .machine) m))) ≡ false)
-    (step-is : step (ownIn g (lead g)) (s .machine) m ≡ terminate (stepBack (ownIn g (lead g)) (takeReport (s .machine) m)))
-    (parts : sumTo 16 (λ q. one (isPart g q)) ≡ size g - 1) where
+    (step-is : step (ownIn g (lead g)) (s .machine) m ≡ terminate (stepBack (ownIn g (lead g)) (takeReport (s .machine) m))) where
   abbrev back : Initiator
   back = stepBack (ownIn g (lead g)) (takeReport (s .machine) m)
 
@@ -83,8 +84,7 @@ module _ (g : Search) (s : Session) (box : ℕ → List ℕ) (phase : ℕ → Ph
   after = moved s machine lengths
 
   leads : Leads g back
-  unfolding stepBack takeReport
-  leads = record { processes = machine-n g s (w .placed); me = w .placed .machine-me; purpose = w .placed .machine-purpose }
+  leads = leads-back g s (w .placed) m
 
   no-restart : eqb (s .machine .purpose) 2 ≡ false
   no-restart = rw (w .placed .machine-purpose) (search-in (g .purpose) searching .1)
@@ -110,7 +110,7 @@ module _ (g : Search) (s : Session) (box : ℕ → List ℕ) (phase : ℕ → Ph
       let got : Gets (size g) outgoing p q = gets g is searching back leads q part p placed outgoing (passing .0) in
       let ends : isTermination (messageTo outgoing q) ≡ true =
       subst (λ (j : ℕ). isTermination (messageTo outgoing j) ≡ true) (part-me g is q part p placed) (passing .1) in
-      subst (IsEnding g after q) (sym (posted-box outgoing k box q (got .sent)))
+      subst (IsEnding g after q) (sym (box-new outgoing k box q (got .sent)))
       (record {
         told = messageTo outgoing q;
         carries = refl;
@@ -158,11 +158,9 @@ module _ (g : Search) (s : Session) (box : ℕ → List ℕ) (phase : ℕ → Ph
 
   deliveries : s .delivered + 1 + sumTo 16 (λ q. one (isPart g q)) ≤ most g
   deliveries =
-      let last : weight (phase k) ≡ 1 = ap weight is-reported in
-      let one-waits : weight (phase k) ≤ sumTo 16 (λ q. weight (phase q)) =
-      sum-at 16 (λ q. weight (phase q)) k (part-within g is k there) in
+      let last = report-counts phase k (part-within g is k there) is-reported in
       let least : (size g - 1) * 1 ≤ (size g - 1) * (2 * ahead + 1) = mul-le-mul-left (size g - 1) (omega arith) in
-      omega (arith, w .deliveries-left, parts, last, one-waits, least)
+      omega (arith, w .deliveries-left, count-parts g is, last, least)
 
   few-rounds : machine .rounds ≤ newer g + 2
   unfolding terminate stepBack takeReport
@@ -174,7 +172,8 @@ module _ (g : Search) (s : Session) (box : ℕ → List ℕ) (phase : ℕ → Ph
       record {
         ends =
             record {
-              placed = placed-moved g s k (w .placed) there machine outgoing to (in′ .me) (in′ .purpose) (in′ .fitting);
+              placed = placed-moved g s k (w .placed) there machine outgoing to
+                  (record { me = in′ .me; purpose = in′ .purpose; fitting = in′ .fitting });
               ended = refl;
               nobody = none-flagged (takeReport (s .machine) m .awaited) none;
               closing = λ q part. subst (Closing g after q (boxAfter outgoing k box q)) (sym part) (ending q part);

@@ -1,30 +1,25 @@
 -- The session once the initiator has taken a step: its machine, the strands and the count of deliveries are others, and nothing else.
 use mathlib.Core.Path.{_≡_, refl, sym, ap, subst, _∙_}
-use mathlib.Core.Bool.{Bool, true, false, true≢false}
-use mathlib.Core.List.{List, []}
+use mathlib.Core.Bool.{Bool, true, false}
+use mathlib.Core.List.{List}
 use mathlib.Core.Logic.{_⊎_}
-use Prim.Native.Nat.{ℕ, _+_, _<_}
-use borrow.Author.Tests.{eq-eqb, ne-eqb}
-use lib.ListN.{length, getD, set}
-use lib.Dec.{eqb}
-use lib.Seq.{getD-set-other}
-use Rattle.line_theory.proofs.Over.{getD-tab, length-tab}
+use Prim.Native.Nat.{ℕ, _+_}
+use lib.ListN.{set}
 use Rattle.matrix.specs.Matrix.{pick}
 use Rattle.message.specs.declared.Message.{Message}
-use Rattle.message.specs.Layout.{messageBytes}
 use Rattle.mail.specs.declared.Outgoing.{Outgoing}
-use Rattle.mail.specs.Outgoing.{goesTo, messageTo, bytesTo}
 use Rattle.machine.specs.Own.{Own}
 use Rattle.machine.specs.Flags.{someone}
 use Rattle.initiator.specs.declared.Initiator.{Initiator}
 use Rattle.initiator.specs.declared.InitiatorStep.{InitiatorStep}
-use Rattle.initiator.specs.Fits.{fits}
 use Rattle.initiator.specs.Step.{takeReport, stepBack, polled, poll, terminate, compare, silent, step}
-use Rattle.strands.specs.Strands.{lengthOn, lengthsPosted}
+use Rattle.strands.specs.Strands.{lengthsPosted}
 use Rattle.session.specs.declared.Session.{Session}
-use Rattle.session_theory.proofs.Search.{Search, lead, isPart, ownIn}
+use Rattle.session.specs.Steps.{withPosted}
+use Rattle.session_theory.proofs.Search.{Search, isPart}
 use Rattle.session_theory.proofs.Invariant.{Placed, boxAfter, Going, Over}
 use Rattle.session_theory.proofs.Moves.{ToParticipants}
+use Rattle.session_theory.proofs.Placing.{IsLead, follow-before, placed-again}
 
 abbrev pub moved : Session → Initiator → List ℕ → Session
 moved s machine lengths =
@@ -47,22 +42,6 @@ abbrev pub Moves : Search → Session → (ℕ → List ℕ) → ℕ → Initiat
 Moves g s box k next =
     ToParticipants g (next .outgoing)
     × (Going g (movedBy s k next) (boxAfter (next .outgoing) k box) ⊎ Over g (movedBy s k next) (boxAfter (next .outgoing) k box))
-
--- ---- what waits then
-
-module _ (o : Outgoing) (k : ℕ) (box : ℕ → List ℕ) (q : ℕ) where
-  pub posted-box : goesTo o q ≡ true → boxAfter o k box q ≡ messageBytes (messageTo o q)
-  posted-box e = ap (λ (t : Bool). pick t (pick t (messageBytes (messageTo o q)) []) (pick (eqb q k) [] (box q))) e
-
-  kept-box : goesTo o q ≡ false → boxAfter o k box q ≡ pick (eqb q k) [] (box q)
-  kept-box e = ap (λ (t : Bool). pick t (pick t (messageBytes (messageTo o q)) []) (pick (eqb q k) [] (box q))) e
-
-  -- the strand on which the message was delivered is empty
-  pub emptied-box : goesTo o q ≡ false → q ≡ k → boxAfter o k box q ≡ []
-  emptied-box e here = kept-box e ∙ ap (λ (t : Bool). pick t [] (box q)) (eq-eqb q k here)
-
-  pub same-box : goesTo o q ≡ false → (q ≡ k → ⊥) → boxAfter o k box q ≡ box q
-  same-box e ne = kept-box e ∙ ap (λ (t : Bool). pick t [] (box q)) (ne-eqb q k ne)
 
 -- ---- a step is one of three
 
@@ -98,40 +77,8 @@ by-step P own state m out polls ends = go (someone (taken .awaited)) refl (someo
 
 -- ---- everybody is where they were
 
-module _ (g : Search) (s : Session) (k : ℕ) (placed : Placed g s) (there : isPart g k ≡ true) (machine : Initiator) (o : Outgoing)
-    (to : ToParticipants g o) where
-  abbrev lengths : List ℕ
-  lengths = lengthsPosted o (set (s .lengths) k 0)
-
-  -- nothing waits where no participant is
-  nothing-there : (q : ℕ) → q < 16 → isPart g q ≡ false → lengthOn lengths q ≡ 0
-  unfolding lengthsPosted
-  nothing-there q h absent =
-      getD-tab 16 (λ p. pick (goesTo o p) (length (bytesTo o p)) (getD (set (s .lengths) k 0) p 0)) q 0 h
-      ∙ (ap (λ (t : Bool). pick t (length (bytesTo o q)) (getD (set (s .lengths) k 0) q 0)) (not-sent (goesTo o q) refl)
-      ∙ (getD-set-other (s .lengths) k q 0 0 (λ e. true≢false (sym there ∙ (ap (isPart g) (sym e) ∙ absent)))
-      ∙ placed .absent q h absent .1))
-    where
-      not-sent : (t : Bool) → goesTo o q ≡ t → goesTo o q ≡ false
-      not-sent true e = absurd (true≢false (sym (to q h e) ∙ absent))
-      not-sent false e = e
-
-  all-lengths : length lengths ≡ 16
-  unfolding lengthsPosted
-  all-lengths = length-tab 16 (λ p. pick (goesTo o p) (length (bytesTo o p)) (getD (set (s .lengths) k 0) p 0))
-
-  pub placed-moved : machine .me ≡ g .initiator → machine .purpose ≡ g .purpose → fits (ownIn g (lead g)) machine ≡ true
-      → Placed g (moved s machine lengths)
-  placed-moved me purpose fitting =
-      record {
-        processes = placed .processes;
-        leader = placed .leader;
-        purpose = placed .purpose;
-        machine-me = me;
-        machine-purpose = purpose;
-        machine-fits = fitting;
-        all-participants = placed .all-participants;
-        all-lengths = all-lengths;
-        part = placed .part;
-        absent = λ q h absent. (placed .absent q h absent .0, nothing-there q h absent);
-      }
+pub placed-moved : (g : Search) (s : Session) (k : ℕ) → Placed g s → isPart g k ≡ true → (machine : Initiator) (o : Outgoing)
+    → ToParticipants g o → IsLead g machine → Placed g (moved s machine (lengthsPosted o (set (s .lengths) k 0)))
+unfolding withPosted
+placed-moved g s k placed there machine o to leads =
+    placed-again g s placed k there machine (s .participants) o leads (follow-before g s placed) to

@@ -1,16 +1,16 @@
 -- Somebody is polled: a wait begins, one checkpoint or more nearer to the line.
 use mathlib.Core.Path.{_≡_, refl, sym, ap, subst, _∙_}
-use mathlib.Core.Bool.{Bool, true, false, not, true≢false}
-use mathlib.Core.List.{List}
+use mathlib.Core.Bool.{Bool, true, false, true≢false}
+use mathlib.Core.List.{List, []}
 use mathlib.Core.Logic.{inl}
 use Prim.Native.Nat.{ℕ, _+_, _-_, _*_, _≤_, _<_}
 use native.Mathlib.Decide.{decLt, ℕ-discrete}
 use native.Mathlib.Omega.{arith}
-use borrow.Author.Tests.{eqb-false, not-true, not-false}
+use borrow.Author.Tests.{eqb-false}
 use lib.ListN.{set}
 use lib.Dec.{eqb}
 use Rattle.line_theory.specs.Over.{sumTo}
-use Rattle.line_theory.proofs.Over.{all-witness, sum-at}
+use Rattle.line_theory.proofs.Over.{all-witness}
 use Rattle.consistency.specs.Known.{counters}
 use Rattle.matrix.specs.Matrix.{pick, entry, column}
 use Rattle.matrix.specs.Entries.{patch, same}
@@ -18,6 +18,7 @@ use Rattle.message.specs.declared.Message.{Message}
 use Rattle.mail.specs.declared.Outgoing.{Outgoing}
 use Rattle.mail.specs.Outgoing.{goesTo, messageTo}
 use Rattle.machine.specs.Flags.{flag, someone}
+use Rattle.machine_laws.proofs.Flags.{some-flagged}
 use Rattle.machine_laws.proofs.Pairs.{absent-no-pair, pair-sym}
 use Rattle.machine_laws.proofs.Rows.{column-at}
 use Rattle.participant.specs.declared.Participant.{Participant}
@@ -33,45 +34,27 @@ use Rattle.exchange_laws.proofs.Theorems.{poll-passes, poll-taken}
 use Rattle.strands.specs.Strands.{lengthsPosted}
 use Rattle.session.specs.declared.Session.{Session}
 use Rattle.session.specs.Workers.{participantAt, standsOn}
-use Rattle.session_theory.proofs.Search.{Search, IsSearch, size, lead, isPart, ownIn, sentIn, newer, most, Between, height}
-use Rattle.session_theory.proofs.Invariant.{
-  Part,
-  Phase,
-  quiet,
-  reported,
-  asked,
-  weight,
-  one,
-  InPhase,
-  IsAsked,
-  IsQuiet,
-  IsReported,
-  boxAfter,
-  Waits,
-}
+use Rattle.session_theory.proofs.Search.{Search, IsSearch, size, lead, isPart, ownIn, sentIn, most, Between, height}
+use Rattle.session_theory.proofs.Invariant.{Part, Phase, quiet, reported, asked, weight, one, InPhase, IsAsked, IsQuiet, IsReported, boxAfter, Waits}
 use Rattle.session_theory.proofs.Moves.{ToParticipants}
-use Rattle.session_theory.proofs.Facts.{few, part-within, part-in, part-me, machine-n}
-use Rattle.search_rounds.proofs.Moved.{moved, Moves, posted-box, emptied-box, same-box, placed-moved}
+use Rattle.session_theory.proofs.Few.{newer-few}
+use Rattle.session_theory.proofs.Changed.{by-place}
+use Rattle.session_theory.proofs.Counting.{count-parts}
+use Rattle.session_theory.proofs.Boxes.{box-new, box-empty, box-kept}
+use Rattle.session_theory.proofs.Facts.{few, part-within, part-in, part-me}
+use Rattle.search_rounds.proofs.Moved.{moved, Moves, placed-moved}
 use Rattle.search_rounds.proofs.Arrives.{Arrived}
 use Rattle.search_rounds.proofs.AllIn.{AllIn, sent, stays-above, between}
-use Rattle.search_rounds.proofs.Settles.{settled}
+use Rattle.search_rounds.proofs.Settles.{leads-back, report-counts, settled}
 use Rattle.search_rounds.proofs.Receivers.{Gets, Leads, gets, searches-with, holds-copy, polled-part, polled-differs, not-polled-same}
 use Rattle.search_rounds.proofs.Heights.{less-high, sum-twice, one-wait}
-
--- somebody is flagged
-some-flagged : (flags : List Bool) → someone flags ≡ true → (p : ℕ) × (p < 16) × (flag flags p ≡ true)
-unfolding someone
-some-flagged flags e =
-    let at = all-witness 16 (λ p. not (flag flags p)) (not-true _ e) in
-    (at .0, at .1, not-false (flag flags (at .0)) (at .2))
 
 module _ (g : Search) (s : Session) (box : ℕ → List ℕ) (phase : ℕ → Phase) (ahead k : ℕ) (is : IsSearch g)
     (searching : isSearch (g .purpose) ≡ true) (w : Waits g s box phase ahead) (there : isPart g k ≡ true) (rep : IsReported g s k (box k))
     (is-reported : phase k ≡ reported) (m : Message) (arrived : Arrived g s k (box k) m)
     (none : someone (takeReport (s .machine) m .awaited) ≡ false)
     (somebody : someone (polled (stepBack (ownIn g (lead g)) (takeReport (s .machine) m))) ≡ true)
-    (step-is : step (ownIn g (lead g)) (s .machine) m ≡ poll (stepBack (ownIn g (lead g)) (takeReport (s .machine) m)))
-    (parts : sumTo 16 (λ q. one (isPart g q)) ≡ size g - 1) (newer-few : newer g ≤ 256) where
+    (step-is : step (ownIn g (lead g)) (s .machine) m ≡ poll (stepBack (ownIn g (lead g)) (takeReport (s .machine) m))) where
   abbrev back : Initiator
   back = stepBack (ownIn g (lead g)) (takeReport (s .machine) m)
 
@@ -94,14 +77,13 @@ module _ (g : Search) (s : Session) (box : ℕ → List ℕ) (phase : ℕ → Ph
   phases q = pick (flag (polled back) q) asked quiet
 
   leads : Leads g back
-  unfolding stepBack takeReport
-  leads = record { processes = machine-n g s (w .placed); me = w .placed .machine-me; purpose = w .placed .machine-purpose }
+  leads = leads-back g s (w .placed) m
 
   in′ : AllIn g s k box machine
   unfolding poll wait stepBack takeReport
   in′ =
       settled g s box phase ahead k is w there rep m arrived none machine (ap (λ (x : InitiatorStep). x .state) step-is) refl refl refl refl
-      refl (omega (arith, w .rounds-left, newer-few))
+      refl (omega (arith, w .rounds-left, newer-few g is))
 
   -- the poll goes to those whose column differs
   goes : (q : ℕ) → goesTo outgoing q ≡ flag (polled back) q
@@ -151,7 +133,7 @@ module _ (g : Search) (s : Session) (box : ℕ → List ℕ) (phase : ℕ → Ph
     is-asked =
         let got : Gets (size g) outgoing p q =
         gets g is searching back leads q part p placed outgoing (poll-passes back p with-it holds flagged .0) in
-        subst (IsAsked g after q) (sym (posted-box outgoing k box q (got .sent)))
+        subst (IsAsked g after q) (sym (box-new outgoing k box q (got .sent)))
         (record {
           told = messageTo outgoing q;
           carries = refl;
@@ -170,10 +152,10 @@ module _ (g : Search) (s : Session) (box : ℕ → List ℕ) (phase : ℕ → Ph
   is-quiet q part off =
       record {
         empty =
-            elim (ℕ-discrete q k) [
-              | yes e ↦ emptied-box outgoing k box q (goes q ∙ off) e
-              | no ne ↦ same-box outgoing k box q (goes q ∙ off) ne ∙ in′ .empty q part ne
-            ];
+            by-place (λ q. isPart g q ≡ true → flag (polled back) q ≡ false → boxes q ≡ []) k
+            (λ part off. box-empty outgoing k box (goes k ∙ off))
+            (λ q ne part off. box-kept outgoing k box q (goes q ∙ off) ne ∙ in′ .empty q part ne)
+            q part off;
         awaited = off;
         searching = in′ .searching q part;
         row-held = in′ .row-held q part;
@@ -240,7 +222,7 @@ module _ (g : Search) (s : Session) (box : ℕ → List ℕ) (phase : ℕ → Ph
   weights : sumTo 16 (λ q. weight (phases q)) ≤ 2 * (size g - 1)
   weights =
       let low = sum-twice 16 (λ q. one (isPart g q)) (λ q. weight (phases q)) (λ q h. go q h (isPart g q) refl) in
-      omega (arith, low, parts)
+      omega (arith, low, count-parts g is)
     where
       two : (t : Bool) → weight (pick t asked quiet) ≤ 2
       two true = omega arith
@@ -252,17 +234,16 @@ module _ (g : Search) (s : Session) (box : ℕ → List ℕ) (phase : ℕ → Ph
 
   deliveries : s .delivered + 1 + sumTo 16 (λ q. weight (phases q)) + (size g - 1) * (2 * height g (standsOn after) + 1) ≤ most g
   deliveries =
-      let last : weight (phase k) ≡ 1 = ap weight is-reported in
-      let one-waits : weight (phase k) ≤ sumTo 16 (λ q. weight (phase q)) =
-      sum-at 16 (λ q. weight (phase q)) k (part-within g is k there) in
+      let last = report-counts phase k (part-within g is k there) is-reported in
       let less = one-wait (size g - 1) ahead (height g (standsOn after)) nearer in
-      omega (arith, w .deliveries-left, weights, last, one-waits, less)
+      omega (arith, w .deliveries-left, weights, last, less)
 
   waits : Waits g after boxes phases (height g (standsOn after))
   unfolding poll wait stepBack takeReport
   waits =
       record {
-        placed = placed-moved g s k (w .placed) there machine outgoing to (in′ .me) (in′ .purpose) (in′ .fitting);
+        placed = placed-moved g s k (w .placed) there machine outgoing to
+            (record { me = in′ .me; purpose = in′ .purpose; fitting = in′ .fitting });
         waiting = refl;
         in-phase = in-phase;
         rest = rest;

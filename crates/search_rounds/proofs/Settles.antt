@@ -5,16 +5,18 @@ use mathlib.Core.List.{List}
 use Prim.Native.Nat.{ℕ, _-_, _≤_, _<_}
 use native.Mathlib.Decide.{ℕ-discrete}
 use native.Mathlib.Omega.{arith}
-use borrow.Author.Tests.{ne-eqb, not-true, not-false}
+use borrow.Author.Tests.{ne-eqb}
 use lib.Dec.{eqb}
 use Rattle.book.specs.declared.Process.{Process}
-use Rattle.line_theory.proofs.Over.{all-in}
+use Rattle.line_theory.specs.Over.{sumTo}
+use Rattle.line_theory.proofs.Over.{sum-at}
 use Rattle.matrix.specs.Matrix.{entry, row, column}
 use Rattle.matrix.proofs.Theorems.{other-rows}
 use Rattle.message.specs.declared.Message.{Message}
 use Rattle.machine.specs.Own.{Own, sentRow, newestPermitted}
 use Rattle.machine.specs.Named.{countLimit}
 use Rattle.machine.specs.Flags.{flag, someone}
+use Rattle.machine_laws.proofs.Flags.{none-flagged}
 use Rattle.participant.specs.declared.Stage.the-variants.{Searching}
 use Rattle.initiator.specs.declared.Initiator.{Initiator}
 use Rattle.initiator.specs.Fits.{keptMatrix, fits}
@@ -27,16 +29,21 @@ use Rattle.exchange_laws.specs.Ends.{SameEntries}
 use Rattle.session.specs.declared.Session.{Session}
 use Rattle.session.specs.Workers.{participantAt}
 use Rattle.session_theory.proofs.Search.{Search, IsSearch, lead, isPart, ownIn}
-use Rattle.session_theory.proofs.Invariant.{Phase, quiet, reported, asked, InPhase, IsQuiet, IsReported, Waits}
-use Rattle.session_theory.proofs.Facts.{part-other, part-within, part-me}
+use Rattle.session_theory.proofs.Invariant.{Placed, Phase, quiet, reported, asked, weight, InPhase, IsQuiet, IsReported, Waits}
+use Rattle.session_theory.proofs.Facts.{part-other, part-within, part-me, machine-n}
 use Rattle.search_rounds.proofs.Arrives.{Arrived}
 use Rattle.search_rounds.proofs.AllIn.{AllIn}
+use Rattle.search_rounds.proofs.Receivers.{Leads}
 
--- nobody is flagged
-pub none-flagged : (flags : List Bool) → someone flags ≡ false → (p : ℕ) → p < 16 → flag flags p ≡ false
-unfolding someone
-none-flagged flags e p h =
-    not-true (flag flags p) (all-in 16 (λ p. not (flag flags p)) (not-false _ e) p h)
+-- the initiator that has stepped back names what it named
+pub leads-back : (g : Search) (s : Session) → Placed g s → (m : Message) → Leads g (stepBack (ownIn g (lead g)) (takeReport (s .machine) m))
+unfolding stepBack takeReport
+leads-back g s placed m = record { processes = machine-n g s placed; me = placed .machine-me; purpose = placed .machine-purpose }
+
+-- the report that arrives was one of the messages to be delivered
+pub report-counts : (phase : ℕ → Phase) (k : ℕ) → k < 16 → phase k ≡ reported → 1 ≤ sumTo 16 (λ q. weight (phase q))
+report-counts phase k h e =
+    let counts : weight (phase k) ≡ 1 = ap weight e in omega (arith, sum-at 16 (λ q. weight (phase q)) k h)
 
 module _ (g : Search) (s : Session) (box : ℕ → List ℕ) (phase : ℕ → Phase) (ahead k : ℕ) (is : IsSearch g) (w : Waits g s box phase ahead)
     (there : isPart g k ≡ true) (rep : IsReported g s k (box k)) (m : Message) (arrived : Arrived g s k (box k) m)
@@ -93,7 +100,7 @@ module _ (g : Search) (s : Session) (box : ℕ → List ℕ) (phase : ℕ → Ph
       (λ q part ne p i h. arrived .other-held q (part-within g is q part) ne i h ∙ p .row-held i h)
 
   -- the initiator's own step back changes its own row alone
-  pub back-held : (q : ℕ) → isPart g q ≡ true → SameEntries (row (back .matrix) q) (participantAt s q .row)
+  back-held : (q : ℕ) → isPart g q ≡ true → SameEntries (row (back .matrix) q) (participantAt s q .row)
   unfolding stepBack takeReport
   back-held q part i h =
       let r : ℕ = newestPermitted own (column (taken .matrix) (state .me .0 - 1)) in

@@ -1,97 +1,35 @@
 -- Reports are still out: the initiator goes on waiting.
-use mathlib.Core.Path.{_≡_, refl, sym, ap, subst, _∙_}
+use mathlib.Core.Path.{_≡_, refl, sym, ap, _∙_}
 use mathlib.Core.Bool.{Bool, true, false, not, _&&_, true≢false}
 use mathlib.Core.List.{List}
 use mathlib.Core.Logic.{inl}
 use Prim.Native.Nat.{ℕ, _+_, _-_, _<_}
-use native.Mathlib.Decide.{ℕ-discrete}
 use native.Mathlib.Omega.{arith}
 use borrow.Author.Tests.{eq-eqb, ne-eqb}
 use lib.ListN.{set}
-use lib.Dec.{eqb}
 use Rattle.line_theory.specs.Over.{sumTo}
-use Rattle.line_theory.proofs.Over.{getD-tab, sum-less}
-use Rattle.matrix.specs.Matrix.{pick, row}
-use Rattle.message.specs.declared.Head.{Head}
 use Rattle.message.specs.declared.Message.{Message}
 use Rattle.mail.specs.declared.Outgoing.{Outgoing}
 use Rattle.mail.specs.Outgoing.{goesTo}
 use Rattle.machine.specs.Flags.{flag, someone}
 use Rattle.machine.specs.Sends.{otherHead, nothing}
+use Rattle.participant_laws.proofs.Report.{nothing-goes}
 use Rattle.initiator.specs.declared.Initiator.{Initiator}
 use Rattle.initiator.specs.Step.{takeReport, silent}
 use Rattle.initiator_laws.proofs.Fit.{fits-out}
 use Rattle.initiator_laws.proofs.Reported.{taken-fit}
-use Rattle.exchange_laws.specs.Ends.{SameEntries}
 use Rattle.strands.specs.Strands.{lengthsPosted}
 use Rattle.session.specs.declared.Session.{Session}
 use Rattle.session_theory.proofs.Search.{Search, IsSearch, lead, isPart, ownIn}
-use Rattle.session_theory.proofs.Invariant.{boxAfter, Phase, quiet, reported, asked, weight, InPhase, IsQuiet, IsReported, Waits}
+use Rattle.session_theory.proofs.Invariant.{boxAfter, Phase, quiet, reported, weight, InPhase, IsQuiet, IsReported, Waits}
 use Rattle.session_theory.proofs.Moves.{ToParticipants}
-use Rattle.session_theory.proofs.Facts.{part-within, part-me}
-use Rattle.search_rounds.proofs.Moved.{moved, Moves, emptied-box, same-box, placed-moved}
+use Rattle.session_theory.proofs.Boxes.{box-empty, box-kept}
+use Rattle.session_theory.proofs.Changed.{changed, changed-other, changed-sum, by-changed}
+use Rattle.session_theory.proofs.Kept.{SameFor, phase-kept}
+use Rattle.session_theory.proofs.Placing.{not-part}
+use Rattle.session_theory.proofs.Facts.{part-within}
+use Rattle.search_rounds.proofs.Moved.{moved, Moves, placed-moved}
 use Rattle.search_rounds.proofs.Arrives.{Arrived}
-
-nothing-goes : (head : Head) (p : ℕ) → p < 16 → goesTo (nothing head) p ≡ false
-unfolding nothing
-nothing-goes head p h = getD-tab 16 (λ p. false) p false h
-
--- ---- a participant of whom the initiator has heard nothing is in the phase it was in
-
-record SameFor (machine t : Initiator) (q : ℕ) : Type 0 where
-  processes : t .n ≡ machine .n
-  me : t .me .0 ≡ machine .me .0
-  purpose : t .purpose ≡ machine .purpose
-  ended : t .ended ≡ machine .ended
-  copy : t .copy ≡ machine .copy
-  awaited : flag (t .awaited) q ≡ flag (machine .awaited) q
-  held : SameEntries (row (t .matrix) q) (row (machine .matrix) q)
-
-module _ (g : Search) (s : Session) (is : IsSearch g) (t : Initiator) (lengths : List ℕ) (q : ℕ) (there : isPart g q ≡ true)
-    (same : SameFor (s .machine) t q) (b : List ℕ) where
-  same-phase : (f : Phase) → InPhase g s q b f → InPhase g (moved s t lengths) q b f
-  same-phase quiet p =
-      record {
-        empty = p .empty;
-        awaited = same .awaited ∙ p .awaited;
-        searching = p .searching;
-        row-held = λ i h. same .held i h ∙ p .row-held i h;
-        column-held = rw (same .copy) (p .column-held);
-      }
-  same-phase reported p =
-      let e : p .sender .me .0 - 1 ≡ q = part-me g is q there (p .sender) (p .from) in
-      record {
-        sender = p .sender;
-        told = p .told;
-        from = p .from;
-        accepts = p .accepts;
-        going = p .going;
-        after = p .after;
-        carries = p .carries;
-        waits =
-            record {
-              processes = same .processes ∙ p .waits .processes;
-              initiated = same .me ∙ p .waits .initiated;
-              same-purpose = same .purpose ∙ p .waits .same-purpose;
-              waiting = same .ended ∙ p .waits .waiting;
-              awaited = rw e (same .awaited ∙ (rw e at (p .waits .awaited)));
-              held = rw e (λ i h. same .held i h ∙ (rw e at (p .waits .held)) i h);
-            };
-        column-held = rw (same .copy) (p .column-held);
-      }
-  same-phase asked p =
-      record {
-        told = p .told;
-        carries = p .carries;
-        read = p .read;
-        passes = p .passes;
-        going = p .going;
-        brings = rw (same .copy) (p .brings);
-        awaited = same .awaited ∙ p .awaited;
-        row-held = λ i h. same .held i h ∙ p .row-held i h;
-      }
-
--- ---- the report taken in
 
 module _ (g : Search) (s : Session) (box : ℕ → List ℕ) (phase : ℕ → Phase) (ahead k : ℕ) (is : IsSearch g) (w : Waits g s box phase ahead)
     (there : isPart g k ≡ true) (rep : IsReported g s k (box k)) (is-reported : phase k ≡ reported) (m : Message) (arrived : Arrived g s k (box k) m)
@@ -109,13 +47,7 @@ module _ (g : Search) (s : Session) (box : ℕ → List ℕ) (phase : ℕ → Ph
   boxes = boxAfter outgoing k box
 
   abbrev phases : ℕ → Phase
-  phases q = pick (eqb q k) quiet (phase q)
-
-  phase-here : phases k ≡ quiet
-  phase-here = ap (λ (t : Bool). pick t quiet (phase k)) (eq-eqb k k refl)
-
-  phase-there : (q : ℕ) → (q ≡ k → ⊥) → phases q ≡ phase q
-  phase-there q ne = ap (λ (t : Bool). pick t quiet (phase q)) (ne-eqb q k ne)
+  phases = changed phase k quiet
 
   silent-to : (q : ℕ) → q < 16 → goesTo outgoing q ≡ false
   silent-to = nothing-goes (otherHead (taken .purpose) (taken .me))
@@ -128,7 +60,7 @@ module _ (g : Search) (s : Session) (box : ℕ → List ℕ) (phase : ℕ → Ph
   unfolding takeReport
   here =
       record {
-        empty = emptied-box outgoing k box k (silent-to k (part-within g is k there)) refl;
+        empty = box-empty outgoing k box (silent-to k (part-within g is k there));
         awaited =
             arrived .flags k (part-within g is k there)
             ∙ (ap (λ (t : Bool). flag (s .machine .awaited) k && not t) (eq-eqb k k refl) ∙ none (flag (s .machine .awaited) k));
@@ -161,35 +93,30 @@ module _ (g : Search) (s : Session) (box : ℕ → List ℕ) (phase : ℕ → Ph
       all false = refl
 
   in-phase : (q : ℕ) → isPart g q ≡ true → InPhase g after q (boxes q) (phases q)
-  in-phase q part = elim (ℕ-discrete q k) [
-    | yes e ↦ subst (λ (p : ℕ). InPhase g after p (boxes p) (phases p)) (sym e) (subst (InPhase g after k (boxes k)) (sym phase-here) here)
-    | no ne ↦
-        let h : q < 16 = part-within g is q part in
-        let same : boxes q ≡ box q = same-box outgoing k box q (silent-to q h) ne in
-        subst (InPhase g after q (boxes q)) (sym (phase-there q ne))
-        (subst (λ (b : List ℕ). InPhase g after q b (phase q)) (sym same)
-        (same-phase g s is taken (lengthsPosted outgoing (set (s .lengths) k 0)) q part (same-for q h ne) (box q) (phase q) (w .in-phase q part)))
-  ]
+  in-phase =
+      by-changed phase k quiet (λ q f. isPart g q ≡ true → InPhase g after q (boxes q) f) (λ part. here)
+      (λ q ne part.
+      let h : q < 16 = part-within g is q part in
+      phase-kept g s after q (box q) (boxes q) refl (box-kept outgoing k box q (silent-to q h) ne) is part (same-for q h ne) (phase q)
+      (w .in-phase q part))
 
   rest : (q : ℕ) → q < 16 → isPart g q ≡ false → phases q ≡ quiet
-  rest q h absent = elim (ℕ-discrete q k) [
-    | yes e ↦ ap phases e ∙ phase-here
-    | no ne ↦ phase-there q ne ∙ w .rest q h absent
-  ]
+  rest q h absent = changed-other phase k quiet q (not-part g k q there absent) ∙ w .rest q h absent
 
   weights : sumTo 16 (λ q. weight (phases q)) + 1 ≡ sumTo 16 (λ q. weight (phase q))
-  weights =
-      sum-less 16 k (λ q. weight (phase q)) (λ q. weight (phases q)) (part-within g is k there)
-      (rw (phase-here, is-reported))
-      (λ q h ne. ap weight (phase-there q ne))
+  weights = changed-sum phase k quiet weight (part-within g is k there) (rw is-reported)
 
   still-waits : Waits g after boxes phases ahead
   unfolding takeReport
   still-waits =
       record {
         placed =
-            placed-moved g s k (w .placed) there taken outgoing to (w .placed .machine-me) (w .placed .machine-purpose)
-            (fits-out (ownIn g (lead g)) taken (taken-fit (ownIn g (lead g)) (s .machine) m (arrived .accepts) out));
+            placed-moved g s k (w .placed) there taken outgoing to
+            (record {
+              me = w .placed .machine-me;
+              purpose = w .placed .machine-purpose;
+              fitting = fits-out (ownIn g (lead g)) taken (taken-fit (ownIn g (lead g)) (s .machine) m (arrived .accepts) out);
+            });
         waiting = w .waiting;
         in-phase = in-phase;
         rest = rest;

@@ -11,8 +11,6 @@ use Rattle.session.specs.Steps.{deliverUp, withPosted}
 use Rattle.session_theory.proofs.Search.{size, lead, ownIn}
 use Rattle.session_theory.proofs.Invariant.{InPhase, IsReported}
 use Rattle.session_theory.proofs.Moves.{UpGoes}
-use Rattle.search_start.proofs.Counting.{count-parts}
-use Rattle.session_fit.proofs.Few.{newer-few}
 use Rattle.search_rounds.proofs.Moved.{Moves, by-step}
 use Rattle.search_rounds.proofs.Arrives.{Arrived, report, arrived}
 use Rattle.search_rounds.proofs.StillOut
@@ -33,6 +31,6 @@ up-goes g s box phase ahead k is searching w there is-reported =
     (by-step (Moves g s box k) own (s .machine) m
     (λ out step-is. StillOut.goes-on g s box phase ahead k is w there rep is-reported m got out)
     (λ none somebody step-is.
-    Polling.goes-on g s box phase ahead k is searching w there rep is-reported m got none somebody step-is (count-parts g is) (newer-few g is))
+    Polling.goes-on g s box phase ahead k is searching w there rep is-reported m got none somebody step-is)
     (λ none nobody step-is.
-    Ending.goes-on g s box phase ahead k is searching w there rep is-reported m got none nobody step-is (count-parts g is)))
+    Ending.goes-on g s box phase ahead k is searching w there rep is-reported m got none nobody step-is))

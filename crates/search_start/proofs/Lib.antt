@@ -1,4 +1,3 @@
-pub mod Counting
 pub mod Start
 pub mod Invited
 pub mod Searching

@@ -19,7 +19,7 @@ use Rattle.session_theory.proofs.Search.{Search, IsSearch, size, isPart}
 use Rattle.session_theory.proofs.Invariant.{IsEnding, Closing, Ends, Restarts}
 use Rattle.session_theory.proofs.Moves.{begins}
 use Rattle.session_theory.proofs.Facts.{few, worker, stands-lead}
-use Rattle.search_start.proofs.Counting.{count-parts}
+use Rattle.session_theory.proofs.Counting.{count-parts}
 use Rattle.search_start.proofs.Start.{started, firstStep, firstState, machine-is, outgoing-is, leads, none-delivered, placed}
 use Rattle.search_start.proofs.Invited.{takes-part, carries, reads, passes}
 use Rattle.search_start.proofs.Alone.{flag-nobody}

@@ -1,7 +1,7 @@
 -- A search has begun: everybody is on its newest checkpoint, at or above the line, and the initiator waits if there is somebody
 -- to wait for.
 use mathlib.Core.Path.{_≡_, refl, ap, _∙_}
-use mathlib.Core.Bool.{true, false, not}
+use mathlib.Core.Bool.{true, false}
 use mathlib.Core.Logic.{inl, inr}
 use Prim.Native.Nat.{ℕ, _≤_, _<_}
 use native.Mathlib.Decide.{ℕ-discrete}
@@ -9,19 +9,18 @@ use native.Mathlib.Omega.{arith}
 use borrow.Author.Tests.{lt-ltb, ne-eqb}
 use lib.Dec.{eqb}
 use Rattle.book.specs.declared.Process.{Process}
-use Rattle.book.specs.Bounds.{mark}
-use Rattle.line_theory.proofs.Over.{all-out, all-not, getD-tab}
-use Rattle.line_theory.proofs.Theorems.{line-is-line}
+use Rattle.line_theory.proofs.Over.{getD-tab}
 use Rattle.machine.specs.Own.{Own}
 use Rattle.machine.specs.Named.{isParticipant}
 use Rattle.machine.specs.Flags.{flag, someone, participants}
 use Rattle.participant.specs.declared.Participant.{Participant}
+use Rattle.machine_laws.proofs.Flags.{flagged-some, flagged-none}
 use Rattle.initiator.specs.declared.Initiator.{Initiator}
 use Rattle.initiator.specs.declared.InitiatorStep.{InitiatorStep}
 use Rattle.initiator.specs.Begin.{wait, idle, search, begin}
 use Rattle.session.specs.Workers.{standsOn}
 use Rattle.session_theory.proofs.Search.{Search, IsSearch, size, lead, ownIn, viewIn, lineIn}
-use Rattle.session_theory.proofs.Facts.{book-is, worker, part-within, stands-lead, stands-part}
+use Rattle.session_theory.proofs.Facts.{worker, part-within, stands-lead, stands-part, line-is}
 use Rattle.search_start.proofs.Start.{others, ready, by-search, started, firstStep, machine-is, leads, place-part}
 
 -- ---- is there somebody to wait for?
@@ -32,9 +31,7 @@ module _ (n me : ℕ) where
   participant-flag k h = getD-tab 16 (λ p. isParticipant n me p) k false h
 
   others-by : (k : ℕ) → k < 16 → isParticipant n me k ≡ true → someone (participants n me) ≡ true
-  unfolding someone
-  others-by k h e =
-      ap not (all-not 16 (λ p. not (flag (participants n me) p)) k h (ap not (participant-flag k h ∙ e)))
+  others-by k h e = flagged-some (participants n me) k h (participant-flag k h ∙ e)
 
   -- the first process, or the second where the first began
   pub others-some : 2 ≤ n → someone (participants n me) ≡ true
@@ -44,8 +41,7 @@ module _ (n me : ℕ) where
   ]
 
   pub others-none : ((k : ℕ) → isParticipant n me k ≡ false) → someone (participants n me) ≡ false
-  unfolding someone
-  others-none none = ap not (all-out 16 (λ p. not (flag (participants n me) p)) (λ k h. ap not (participant-flag k h ∙ none k)))
+  others-none none = flagged-none (participants n me) (λ k h. participant-flag k h ∙ none k)
 
 -- ---- the initiator's machine
 
@@ -88,7 +84,7 @@ module _ (g : Search) (is : IsSearch g) (searches : eqb (g .purpose) 2 ≡ false
   ]
 
   pub line-most : (j : ℕ) → j < size g → lineIn g j ≤ viewIn g .count j
-  line-most j h = line-is-line mark (viewIn g) (book-is g is) .is-set .among j h
+  line-most j h = line-is g is .is-set .among j h
 
   pub above-line : (j : ℕ) → j < size g → lineIn g j ≤ standsOn (started g) j
   above-line j h = rw (stands-newest j h) (line-most j h)

@@ -4,13 +4,13 @@ use mathlib.Core.Bool.{Bool, true, false}
 use mathlib.Core.List.{List}
 use Prim.Native.Nat.{ℕ, suc, _-_, _<_}
 use native.Mathlib.Omega.{arith}
-use lib.ListN.{length, getD, getD-replicate}
+use lib.ListN.{getD, getD-replicate}
 use lib.Dec.{eqb}
 use Rattle.book.specs.declared.Process.{Process}
 use Rattle.line_theory.proofs.Over.{getD-tab, length-tab}
 use Rattle.matrix.specs.Matrix.{pick}
 use Rattle.mail.specs.declared.Outgoing.{Outgoing}
-use Rattle.mail.specs.Outgoing.{goesTo, bytesTo, noLengths}
+use Rattle.mail.specs.Outgoing.{goesTo, noLengths}
 use Rattle.machine.specs.Own.{Own}
 use Rattle.machine.specs.Flags.{someone, participants}
 use Rattle.machine_laws.specs.Own.{IsOwn}
@@ -30,6 +30,7 @@ use Rattle.session.specs.Steps.{placeAtStart, begun, withPosted}
 use Rattle.session_theory.proofs.Search.{Search, IsSearch, lead, isPart, ownIn}
 use Rattle.session_theory.proofs.Invariant.{Part, Placed}
 use Rattle.session_theory.proofs.Moves.{begins, ToParticipants}
+use Rattle.session_theory.proofs.Boxes.{lengths-long, lengths-none}
 use Rattle.session_theory.proofs.Facts.{own-is, lead-in, part-own, part-within}
 
 -- ---- the initiator's machine, whatever the purpose
@@ -74,10 +75,7 @@ module _ (own : Own) (me : Process) (purpose : ℕ) where
 
 -- nobody's strand holds anything but what was put on it
 posted-nothing : (o : Outgoing) (k : ℕ) → k < 16 → goesTo o k ≡ false → lengthOn (lengthsPosted o noLengths) k ≡ 0
-unfolding lengthsPosted
-posted-nothing o k h e =
-    getD-tab 16 (λ p. pick (goesTo o p) (length (bytesTo o p)) (lengthOn noLengths p)) k 0 h
-    ∙ (ap (λ (t : Bool). pick t (length (bytesTo o k)) (lengthOn noLengths k)) e ∙ getD-replicate 16 k 0 0 h)
+posted-nothing o k h e = lengths-none o noLengths k h e ∙ getD-replicate 16 k 0 0 h
 
 -- ---- the session
 
@@ -153,7 +151,7 @@ module _ (g : Search) (is : IsSearch g) where
       subst (λ (p : Participant). Part g k p) (sym (place-part g k (part-within g is k there) there)) (first-part k there)
 
   pub placed : Placed g (started g)
-  unfolding withPosted begun lengthsPosted
+  unfolding withPosted begun
   placed = record {
     processes = refl;
     leader = refl;
@@ -162,7 +160,7 @@ module _ (g : Search) (is : IsSearch g) where
     machine-purpose = begin-purpose (ownIn g (lead g)) (g .initiator) (g .purpose);
     machine-fits = begin-fits (ownIn g (lead g)) (g .initiator) (g .purpose) (own-is g is (lead g) (lead-in g is));
     all-participants = length-tab 16 (placeAtStart (g .shape) (g .sent) (g .received) (g .initiator) (g .purpose));
-    all-lengths = length-tab 16 _;
+    all-lengths = lengths-long (begins g .outgoing) noLengths;
     part = part-at;
     absent = λ k h e. (place-absent g k h e, nothing-there g k h e);
   }

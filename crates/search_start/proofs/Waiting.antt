@@ -25,7 +25,7 @@ use Rattle.session_theory.proofs.Search.{Search, IsSearch, size, lead, isPart, 
 use Rattle.session_theory.proofs.Invariant.{Phase, quiet, asked, weight, InPhase, Waits, Going, one}
 use Rattle.session_theory.proofs.Moves.{begins}
 use Rattle.session_theory.proofs.Facts.{few, own-is, book-is, lead-in}
-use Rattle.search_start.proofs.Counting.{count-parts}
+use Rattle.session_theory.proofs.Counting.{count-parts}
 use Rattle.search_start.proofs.Start.{started, none-delivered, placed}
 use Rattle.search_start.proofs.Searching.{stands-newest, above-line}
 use Rattle.search_start.proofs.Asked.{still-waiting, one-round, copy-first, is-asked}

@@ -3,16 +3,14 @@ use mathlib.Core.Path.{sym, subst}
 use mathlib.Core.Logic.{inl, inr}
 use Prim.Native.Nat.{ℕ, _≤_, _<_}
 use native.Mathlib.Omega.{arith}
-use Rattle.book.specs.Bounds.{mark}
-use Rattle.line_theory.proofs.Theorems.{line-is-line}
 use Rattle.machine_laws.proofs.Checkpoints.{checkpoint-in}
 use Rattle.machine_laws.proofs.Theorems.{sent-falls}
 use Rattle.participant_laws.proofs.Accepted as participant
 use Rattle.initiator_laws.proofs.Fit as initiator
 use Rattle.session.specs.declared.Session.{Session}
 use Rattle.session.specs.Workers.{participantAt, standsOn}
-use Rattle.session_theory.proofs.Search.{Search, IsSearch, size, lead, ownIn, viewIn, lineIn, sentIn}
-use Rattle.session_theory.proofs.Facts.{few, own-is, book-is, worker, stands-lead, stands-part}
+use Rattle.session_theory.proofs.Search.{Search, IsSearch, size, lead, ownIn, lineIn, sentIn}
+use Rattle.session_theory.proofs.Facts.{few, own-is, line-is, worker, stands-lead, stands-part}
 use Rattle.session_theory.proofs.Invariant.{Placed}
 
 module _ (g : Search) (s : Session) (placed : Placed g s) (j : ℕ) (h : j < size g) where
@@ -30,7 +28,7 @@ module _ (g : Search) (s : Session) (placed : Placed g s) (j : ℕ) (h : j < siz
 
 module _ (g : Search) (is : IsSearch g) where
   pub line-some : (j : ℕ) → j < size g → 1 ≤ lineIn g j
-  line-some j h = line-is-line mark (viewIn g) (book-is g is) .is-set .some j h
+  line-some j h = line-is g is .is-set .some j h
 
   -- an earlier checkpoint had sent no more
   pub sent-less : (j r r′ p : ℕ) → j < size g → p < size g → 1 ≤ r′ → r′ ≤ r → r ≤ ownIn g j .count

@@ -32,7 +32,7 @@ use Rattle.session_theory.proofs.Search.{Search, IsSearch, size, isPart, ownIn}
 use Rattle.session_theory.proofs.Facts.{few, part-within, part-own, part-me, part-named}
 use Rattle.session_theory.proofs.Invariant.{Part, Placed}
 use Rattle.session_theory.proofs.Moves.{ToParticipants}
-use Rattle.search_turns.proofs.Placing.{afterDelivery, leads-before, follow-one, placed-again}
+use Rattle.session_theory.proofs.Placing.{afterDelivery, leads-before, follow-one, placed-again}
 use Rattle.search_turns.proofs.Moved.{Moved, moved}
 
 -- ---- what is accepted

@@ -19,7 +19,6 @@ use Rattle.demand3.specs.Statement.{messageWaits}
 use Rattle.demand3.proofs.Turn.{questionOf, nextOf}
 use Rattle.demand3.proofs.Kept.{Holds, holds-next, long-next, counted, room-answers}
 use Rattle.searches.specs.Lowest.{lowestWaiting, toEnd}
-use Rattle.demand3.proofs.Theorems.{pieces}
 use Rattle.searches.proofs.Begin.{In, InSession, restarts, startOf, kept-in, start-holds, start-long}
 use Rattle.searches.proofs.Lowest.{lowest-found, some-found}
 
@@ -37,7 +36,7 @@ module _ (shape : Shape) (sent received : List ℕ) (o : Ongoing) where
   to-end-done zero h = refl
   to-end-done (suc left) h = rw (toEnd, h)
 
-  pub to-end-none : toEnd shape sent received 0 o ≡ o
+  to-end-none : toEnd shape sent received 0 o ≡ o
   unfolding toEnd
   to-end-none = refl
 
@@ -72,8 +71,8 @@ module _ (g : Search) (is : IsSearch g) where
     next-runs =
         let p : Process = lowestWaiting (o .session) in
         record {
-          holds = holds-next pieces g is (InSession g) (kept-in g is) o (runs .holds) p;
-          room = omega (arith, runs .room, long-next pieces g is (InSession g) (kept-in g is) o (runs .holds) p);
+          holds = holds-next g is (InSession g) (kept-in g is) o (runs .holds) p;
+          room = omega (arith, runs .room, long-next g is (InSession g) (kept-in g is) o (runs .holds) p);
         }
 
     pub next-counts : messageWaits (o .session) ≡ true → lowestNext o .session .delivered ≡ o .session .delivered + 1
@@ -81,9 +80,9 @@ module _ (g : Search) (is : IsSearch g) where
         let p : Process = lowestWaiting (o .session) in
         let some : 1 ≤ p .0 = some-found (o .session) waits in
         let passes : questionOf g o p ≡ 0 =
-        room-answers pieces g is (InSession g) (kept-in g is) o (runs .holds) p some
+        room-answers g is (InSession g) (kept-in g is) o (runs .holds) p some
         (lowest-found (o .session) some .waits) (runs .room) in
-        counted pieces g is (InSession g) (kept-in g is) o (runs .holds) p
+        counted g is (InSession g) (kept-in g is) o (runs .holds) p
         ∙ ap (λ (v : Bool). o .session .delivered + pick v 1 0) (eq-eqb (questionOf g o p) 0 passes)
 
   -- ---- to the end

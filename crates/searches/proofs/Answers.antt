@@ -28,7 +28,6 @@ use Rattle.demand3.proofs.Kept.{placed-in}
 use Rattle.searches.specs.Lowest.{searched}
 use Rattle.searches.specs.Search.{searchQuestion, setSearched, passedSearched, roundsSearched, messagesSearched}
 use Rattle.searches.specs.Parts.{Among}
-use Rattle.demand3.proofs.Theorems.{pieces}
 use Rattle.searches.proofs.Begin.{InSession, kept-in}
 use Rattle.searches.proofs.Ends.{endIn}
 use Rattle.searches.proofs.Theorems.{searchIn, is-search, searched-ended, searched-stands}
@@ -95,13 +94,13 @@ module _ (shape : Shape) (sent received : List ℕ) (initiator : Process) (purpo
     searched-leader s same =
         let is = is-search shape sent received initiator purpose long accepted in
         let placed : Placed g (o .session) =
-        placed-in pieces g is (InSession g) (kept-in g is) o
+        placed-in g is (InSession g) (kept-in g is) o
         (searched-ended shape sent received initiator purpose long accepted .runs .holds) in
         let leader : s .initiator ≡ initiator = ap (λ (t : Session). t .initiator) same ∙ placed .leader in
         subst (λ (p : Process). 1 ≤ p .0) (sym leader) (initiator-some g is)
 
     -- the set of checkpoints
-    pub searched-set : checkpoints (standsOn (o .session)) ≡ checkpoints (endIn g)
+    searched-set : checkpoints (standsOn (o .session)) ≡ checkpoints (endIn g)
     searched-set =
         checkpoints-same (standsOn (o .session)) (endIn g)
         (searched-stands shape sent received initiator purpose long accepted)

@@ -28,7 +28,8 @@ use Rattle.search_start.proofs.Start.{none-delivered}
 use Rattle.demand3.proofs.Kept.{Kept, Holds}
 use Rattle.demand3.proofs.Searching.{InSearch, InRestart, search-kept, restart-kept}
 use Rattle.searches.specs.Lowest.{strandsInside}
-use Rattle.demand3.proofs.Theorems.{pieces}
+use Rattle.strand_laws.proofs.Theorems.{laid-begun, room-suffices}
+use Rattle.search_start.proofs.Theorems.{search-begins, restart-begins}
 
 -- what holds of a session: of a bare restart, or of a search
 abbrev pub In : Bool → Search → Session → (ℕ → List ℕ) → Type 0
@@ -67,16 +68,16 @@ module _ (g : Search) (is : IsSearch g) where
   kept-in = go (restarts g) refl
     where
       go : (v : Bool) → restarts g ≡ v → Kept g (In v g)
-      go true e = restart-kept pieces g is (eqb-true (g .purpose) 2 e)
-      go false e = search-kept pieces g is (is-searching e)
+      go true e = restart-kept g is (eqb-true (g .purpose) 2 e)
+      go false e = search-kept g is (is-searching e)
 
   begins-in : ToParticipants g (begins g .outgoing) × InSession g (withPosted (begins g)) (bytesTo (begins g .outgoing))
   begins-in = go (restarts g) refl
     where
       go : (v : Bool) → restarts g ≡ v
           → ToParticipants g (begins g .outgoing) × In v g (withPosted (begins g)) (bytesTo (begins g .outgoing))
-      go true e = pieces .restart-begins g is (eqb-true (g .purpose) 2 e)
-      go false e = pieces .search-begins g is (is-searching e)
+      go true e = restart-begins g is (eqb-true (g .purpose) 2 e)
+      go false e = search-begins g is (is-searching e)
 
   begins-short : Short g (begins g .outgoing)
   begins-short k small sent =
@@ -84,7 +85,7 @@ module _ (g : Search) (is : IsSearch g) where
 
   module _ (strands : List ℕ) (room : roomForAll (size g) ≤ length strands) where
     begins-room : haveRoom (size g) (lead g) (begins g .outgoing) strands ≡ true
-    begins-room = pieces .room-suffices g (begins g .outgoing) strands is (begins-in .0) begins-short room
+    begins-room = room-suffices g (begins g .outgoing) strands is (begins-in .0) begins-short room
 
     pub starts-with-room : startQuestion (g .shape) (g .sent) (g .received) (g .initiator) (g .purpose) strands ≡ 0
     unfolding startQuestion
@@ -108,7 +109,7 @@ module _ (g : Search) (is : IsSearch g) where
     laid :
         Laid g (withPosted (begins g)) (posted (size g) (lead g) (begins g .outgoing) strands) (bytesTo (begins g .outgoing))
         × (length (posted (size g) (lead g) (begins g .outgoing) strands) ≡ length strands)
-    laid = pieces .laid-begun g strands is (begins-in .0) begins-short begins-room
+    laid = laid-begun g strands is (begins-in .0) begins-short begins-room
 
     pub start-holds : Holds g (InSession g) (startOf g strands)
     start-holds =

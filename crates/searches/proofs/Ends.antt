@@ -2,11 +2,11 @@
 use mathlib.Core.Path.{_≡_, refl, sym, ap, _∙_}
 use mathlib.Core.Bool.{Bool, true, false, true≢false}
 use mathlib.Core.List.{List}
-use mathlib.Core.Logic.{_⊎_, inl, inr, ⊎-elim}
+use mathlib.Core.Logic.{inl, inr}
 use Prim.Native.Nat.{ℕ, _-_, _≤_, _<_}
 use native.Mathlib.Decide.{decLt}
 use native.Mathlib.Omega.{arith}
-use borrow.Author.Tests.{lt-ltb, le-ltb, eq-eqb, ne-eqb, eqb-true, not-false}
+use borrow.Author.Tests.{lt-ltb, le-ltb, ne-eqb, eqb-true, not-false}
 use lib.Dec.{eqb}
 use Rattle.line_theory.specs.Over.{allTo}
 use Rattle.line_theory.proofs.Over.{all-in}
@@ -19,14 +19,13 @@ use Rattle.session.specs.Workers.{standsOn, hasEnded}
 use Rattle.session.specs.Turns.{Ongoing}
 use Rattle.session_theory.proofs.Search.{Search, IsSearch, size, lead, isPart, viewIn, lineIn}
 use Rattle.session_theory.proofs.Invariant.{Placed, Laid, Restarts}
-use Rattle.session_theory.proofs.Facts.{few, lead-in, worker}
+use Rattle.session_theory.proofs.Facts.{lead-in}
 use Rattle.demand3.specs.Statement.{messageWaits, someoneGoesOn}
 use Rattle.demand3.proofs.Kept.{Holds, placed-in}
 use Rattle.demand3.proofs.Searching.{InSearch, waits-tell, over-tell, restart-tell}
-use Rattle.demand3.proofs.Workers.{none-ended, open-going}
+use Rattle.demand3.proofs.Workers.{none-ended, ended-closed}
 use Rattle.demand3.proofs.Exactly.{going-exactly, over-exactly}
 use Rattle.searches.specs.Search.{endOf}
-use Rattle.demand3.proofs.Theorems.{pieces}
 use Rattle.searches.proofs.Begin.{In, InSession, restarts, is-searching, kept-in}
 
 -- where everybody of a search ends
@@ -55,12 +54,12 @@ module _
 
     search-over : isSearch (g .purpose) ≡ true → InSearch g s box → AtEnd (lineIn g)
     search-over searching (inl w) j small =
-        let told = waits-tell pieces g is searching s strands box (w .0) (w .1) (w .2) in
+        let told = waits-tell g is searching s strands box (w .0) (w .1) (w .2) in
         let ended : hasEnded s j ≡ true =
         all-ended (size g) s (going-exactly g is s strands box laid (w .0) (w .1) (w .2) (told .some)) silent j small in
         absurd (true≢false (sym ended ∙ none-ended g is s box (w .0) (w .1) (w .2) j small))
     search-over searching (inr f) j small =
-        let told = over-tell pieces g is searching s strands box (f .0) (f .1) in (
+        let told = over-tell g is searching s strands box (f .0) (f .1) in (
           all-ended (size g) s (over-exactly g is s strands box laid (f .0) (f .1 .ends) (told .some)) silent j small,
           f .1 .on-line j small,
         )
@@ -68,24 +67,14 @@ module _
     module _ (restart : g .purpose ≡ 2) (open′ : ℕ → Bool) (r : Restarts g s box open′) where
       restart-ended : (j : ℕ) → j < size g → hasEnded s j ≡ true
       restart-ended =
-          let told = restart-tell pieces g is restart s strands box open′ r in
+          let told = restart-tell g is restart s strands box open′ r in
           all-ended (size g) s (over-exactly g is s strands box laid open′ (r .ends) (told .some)) silent
 
-      closed : (j : ℕ) → j < size g → open′ j ≡ false
-      closed j small =
-          ⊎-elim
-          (λ (l : j ≡ lead g).
-          r .ends .rest j (omega (arith, few g is, small)) (rw (lt-ltb j (size g) small, eq-eqb j (lead g) l)))
-          (λ (there : isPart g j ≡ true). at there (open′ j) refl)
-          (worker g j small)
-        where
-          at : isPart g j ≡ true → (v : Bool) → open′ j ≡ v → open′ j ≡ false
-          at there true e =
-              absurd (true≢false (sym (restart-ended j small) ∙ open-going g is s box open′ (r .ends) j there e))
-          at there false e = e
-
       restart-over : AtEnd (λ j. 1)
-      restart-over j small = (restart-ended j small, r .on-oldest j small (closed j small))
+      restart-over j small = (
+        restart-ended j small,
+        r .on-oldest j small (ended-closed g is s box open′ (r .ends) j small (restart-ended j small)),
+      )
 
 module _ (g : Search) (is : IsSearch g) (o : Ongoing) (holds : Holds g (InSession g) o) (silent : messageWaits (o .session) ≡ false) where
   abbrev s : Session
@@ -104,7 +93,7 @@ module _ (g : Search) (is : IsSearch g) (o : Ongoing) (holds : Holds g (InSessio
   -- absent processes have 0
   absent-stands : (j : ℕ) → size g ≤ j → j < 16 → standsOn s j ≡ 0
   absent-stands j out small =
-      let placed : Placed g s = placed-in pieces g is (InSession g) (kept-in g is) o holds in
+      let placed : Placed g s = placed-in g is (InSession g) (kept-in g is) o holds in
       let other : eqb j (lead g) ≡ false = ne-eqb j (lead g) (λ e. omega (arith, lead-in g is, out, e)) in
       let nobody : isPart g j ≡ false = rw (le-ltb j (size g) out) in
       rw (placed .leader, other) (ap (λ (p : Participant). p .candidate .0) (placed .absent j small nobody .0) ∙ no-candidate)

@@ -139,7 +139,7 @@ module _
     (session-left : s ≡ sessionStarted shape sent received initiator purpose lent)
     (strands-left : strands ≡ strandsStarted shape sent received initiator purpose lent)
   where
-    pub started-is : _≡_ {A = Ongoing} (record { session = s; strands = strands }) (started shape sent received initiator purpose strandsInside)
+    started-is : _≡_ {A = Ongoing} (record { session = s; strands = strands }) (started shape sent received initiator purpose strandsInside)
     started-is = rw (session-left, strands-left, inside)
 
     pub started-inside : length (shape .counts) ≡ mostProcesses → searchQuestion shape sent received initiator purpose ≡ 0

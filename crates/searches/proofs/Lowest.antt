@@ -30,20 +30,20 @@ none-more lengths k n small here =
 
 module _ (s : Session) where
   -- a message waits at k, or it does not
-  pub lowest-here : (k left : ℕ) → waitsOn s k ≡ true → lowestFrom k (suc left) s ≡ suc k
+  lowest-here : (k left : ℕ) → waitsOn s k ≡ true → lowestFrom k (suc left) s ≡ suc k
   unfolding lowestFrom
   lowest-here k left h = rw (lowestFrom, h)
 
-  pub lowest-later : (k left : ℕ) → waitsOn s k ≡ false → lowestFrom k (suc left) s ≡ lowestFrom (suc k) left s
+  lowest-later : (k left : ℕ) → waitsOn s k ≡ false → lowestFrom k (suc left) s ≡ lowestFrom (suc k) left s
   unfolding lowestFrom
   lowest-later k left h = rw (lowestFrom, h)
 
-  pub lowest-none : (k : ℕ) → lowestFrom k 0 s ≡ 0
+  lowest-none : (k : ℕ) → lowestFrom k 0 s ≡ 0
   unfolding lowestFrom
   lowest-none k = refl
 
   -- after so many strands on which none waits
-  pub lowest-skip : (k : ℕ) → k ≤ 16 → ((q : ℕ) → q < k → waitsOn s q ≡ false) → lowestFrom 0 16 s ≡ lowestFrom k (16 - k) s
+  lowest-skip : (k : ℕ) → k ≤ 16 → ((q : ℕ) → q < k → waitsOn s q ≡ false) → lowestFrom 0 16 s ≡ lowestFrom k (16 - k) s
   lowest-skip zero small none = refl
   lowest-skip (suc k) small none =
       let left : 16 - k ≡ suc (16 - suc k) = omega arith in
@@ -51,14 +51,14 @@ module _ (s : Session) where
       ∙ ap (λ (l : ℕ). lowestFrom k l s) left
       ∙ lowest-later k (16 - suc k) (none k (omega arith))
 
-  pub lowest-at : (k : ℕ) → k < 16 → ((q : ℕ) → q < k → waitsOn s q ≡ false) → waitsOn s k ≡ true → lowestFrom 0 16 s ≡ suc k
+  lowest-at : (k : ℕ) → k < 16 → ((q : ℕ) → q < k → waitsOn s q ≡ false) → waitsOn s k ≡ true → lowestFrom 0 16 s ≡ suc k
   lowest-at k small none here =
       let left : 16 - k ≡ suc (15 - k) = omega arith in
       lowest-skip k (omega arith) none
       ∙ ap (λ (l : ℕ). lowestFrom k l s) left
       ∙ lowest-here k (15 - k) here
 
-  pub lowest-nowhere : ((q : ℕ) → q < 16 → waitsOn s q ≡ false) → lowestFrom 0 16 s ≡ 0
+  lowest-nowhere : ((q : ℕ) → q < 16 → waitsOn s q ≡ false) → lowestFrom 0 16 s ≡ 0
   lowest-nowhere none = lowest-skip 16 (omega arith) none ∙ lowest-none 16
 
   quiet : (q : ℕ) → lengthOn (s .lengths) q ≡ 0 → waitsOn s q ≡ false

@@ -87,7 +87,7 @@ module _
     abbrev later : Unit {0} → ℕ
     later _ = ask 10 (isNamed (shapeIn b .n) (initiator .0)) then λ _. ask 11 (isPurpose purpose)
 
-    pub run-read : readQuestion bytes sent received ≡ 0
+    run-read : readQuestion bytes sent received ≡ 0
     unfolding runQuestion
     run-read = then-none (readQuestion bytes sent received) later accepted .0
 
@@ -107,14 +107,14 @@ module _
           purposed = asked .1;
         }
 
-    pub run-accepted : IsAccepted b
+    run-accepted : IsAccepted b
     run-accepted =
         record {
           read = run-read;
           start = starts-with-room g is-search strandsInside (room-inside (shapeIn b .n) (few g is-search));
         }
 
-    pub run-holds : Searches b → (turns : List ℕ) → HoldsAfter b (asProcesses turns)
+    run-holds : Searches b → (turns : List ℕ) → HoldsAfter b (asProcesses turns)
     run-holds searches turns = demand-3 b run-accepted searches (asProcesses turns)
 
 -- ---- what `run` answers

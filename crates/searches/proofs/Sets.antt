@@ -10,13 +10,11 @@ use lib.ListN.{length, getD, set, length-set}
 use lib.Dec.{eqb}
 use Rattle.book.specs.declared.Shape.{Shape}
 use Rattle.book.specs.declared.Checkpoint.{Checkpoint}
-use Rattle.book.specs.Bounds.{mark}
 use Rattle.book.specs.View.{count}
 use Rattle.book.proofs.Sums.{sum-more, sum-take}
 use Rattle.line_theory.specs.Over.{sumTo}
 use Rattle.line_theory.specs.Sets.{passed}
 use Rattle.line_theory.proofs.Over.{sum-ext, getD-tab, length-tab}
-use Rattle.line_theory.proofs.Theorems.{line-is-line}
 use Rattle.line_theory.proofs.Accepted.{accepted-few}
 use Rattle.consistency.specs.Set.{chosen}
 use Rattle.consistency.proofs.Fills.{fill-more}
@@ -26,17 +24,16 @@ use Rattle.matrix.specs.Matrix.{pick}
 use Rattle.participant.specs.declared.Participant.{Participant}
 use Rattle.participant.specs.Calls.{noParticipant}
 use Rattle.initiator.specs.declared.Initiator.{Initiator}
-use Rattle.session_steps.proofs.Places.{at-place}
-use Rattle.session_steps.proofs.Steps.{beyond}
+use Rattle.session.proofs.Places.{beyond, at-place}
 use Rattle.session_theory.proofs.Search.{Search, IsSearch, size, viewIn}
-use Rattle.session_theory.proofs.Facts.{few, book-is}
+use Rattle.session_theory.proofs.Facts.{few, book-is, line-is}
 use Rattle.searches.specs.Parts.{Among}
 use Rattle.searches.proofs.Begin.{restarts}
 use Rattle.searches.proofs.Ends.{endIn}
 
 -- ---- sixteen checkpoints
 
-pub chosen-there : (c : ℕ → ℕ) (j : ℕ) → j < 16 → chosen (checkpoints c) j ≡ c j
+chosen-there : (c : ℕ → ℕ) (j : ℕ) → j < 16 → chosen (checkpoints c) j ≡ c j
 unfolding checkpoints
 chosen-there c j small =
     let f : ℕ → Checkpoint = λ i. record { 0 = c i } in
@@ -123,7 +120,7 @@ module _ (g : Search) (is : IsSearch g) where
     where
       go : (v : Bool) → restarts g ≡ v → endIn g j ≤ count (g .shape) j
       go true e = rw (e, lt-ltb j (size g) small) (book-is g is .some j small)
-      go false e = rw e (line-is-line mark (viewIn g) (book-is g is) .is-set .among j small)
+      go false e = rw e (line-is g is .is-set .among j small)
 
   pub end-is-among : Among (g .shape) (checkpoints (endIn g))
   end-is-among =

@@ -49,7 +49,7 @@ module _ (n : ℕ) (p : Participant) (s : List ℕ) where
   what = pick (endsSearch (participant.readBy n p s)) Ending Asking
 
   -- not formed: question 14 fails
-  pub down-formless : messageFormed n (p .me .0) (p .initiator .0) s ≡ false → 14 ≡ down
+  down-formless : messageFormed n (p .me .0) (p .initiator .0) s ≡ false → 14 ≡ down
   down-formless h =
       fails (messageFormed n (p .me .0) (p .initiator .0) s)
       (ask 15 (awaits p (participant.readBy n p s)) then λ _. ask 16 (allLower (participant.readBy n p s .news) (p .column))) h

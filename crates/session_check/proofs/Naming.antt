@@ -1,42 +1,25 @@
 -- Questions 10 and 11 of a session: the tests in turn.
-use mathlib.Core.Path.{_≡_, refl}
+use mathlib.Core.Path.{_≡_}
 use mathlib.Core.Bool.{Bool, true, false, not, _||_}
-use mathlib.Core.List.{List, [], _∷_}
-use Prim.Native.Nat.{ℕ, zero, suc, _<_}
+use mathlib.Core.List.{List}
+use Prim.Native.Nat.{ℕ, _<_}
 use native.Mathlib.Omega.{arith}
 use lib.ListN.{length, getD}
 use Rattle.message.specs.Formed.{isNamed, isPurpose}
 use Rattle.machine.specs.Named.{participantNamed, isParticipant}
 use Rattle.participant.specs.declared.Participant.{Participant}
-use Rattle.participant.specs.declared.Stage.the-variants.{Before}
+use Rattle.participant.specs.Calls.{noParticipant}
 use Rattle.session.specs.declared.Session.{Session}
 use Rattle.session.specs.Workers.{initiatorOf}
 use Rattle.session.specs.Fits.{sessionNamed, sessionPurposes}
+use Rattle.session.proofs.Places.{beyond, at-place}
 use Rattle.session_check.specs.Parts.{at, allNamed, allPurposes}
 use Rattle.session_check.proofs.Chains.{first-of-three, second-of-three, third-of-three}
 
 -- ---- the machine at a place, as the code reads it
 
-abbrev pub unread : Participant
-unread =
-    record {
-      n = 0;
-      me = record { 0 = 0 };
-      initiator = record { 0 = 0 };
-      purpose = 0;
-      stage = Before;
-      candidate = record { 0 = 0 };
-      row = [];
-      column = [];
-    }
-
-pub read-at : (participants : List Participant) (k : ℕ) → length participants ≡ 16 → k < 16 → getD participants k unread ≡ at participants k
-read-at participants k sixteen h = go participants k (omega arith)
-  where
-    go : (l : List Participant) (i : ℕ) → i < length l → getD l i unread ≡ at l i
-    go [] i m = absurd (omega arith)
-    go (p ∷ l) zero m = refl
-    go (p ∷ l) (suc i) m = go l i (omega arith)
+pub read-at : (participants : List Participant) (k : ℕ) → length participants ≡ 16 → k < 16 → getD participants k beyond ≡ at participants k
+read-at participants k sixteen h = at-place beyond noParticipant participants k (omega arith)
 
 -- ---- questions 10 and 11
 

@@ -3,7 +3,7 @@ use mathlib.Core.Path.{_≡_, sym, ap, _∙_}
 use mathlib.Core.Bool.{Bool, true, false, _&&_}
 use mathlib.Core.List.{List}
 use Prim.Native.Nat.{ℕ, _≤_, _<_}
-use borrow.Author.Tests.{eq-eqb, ne-eqb, lt-ltb, le-ltb, ltb-true}
+use borrow.Author.Tests.{eq-eqb, ne-eqb, lt-ltb, le-ltb}
 use lib.ListN.{length}
 use lib.Dec.{eqb, ltb}
 use Rattle.book.specs.declared.Shape.{Shape}
@@ -24,9 +24,6 @@ use Rattle.session.specs.Fits.{initiatorFits, participantFits, strandWithin, st
 use Rattle.session_check.specs.Parts.{machineFits, heldFits}
 use Rattle.session_check.proofs.Chains.{pick-yes, pick-no, first-of-three, second-of-three, third-of-three, first-of-four, second-of-four, third-of-four, fourth-of-four, last-of-four}
 use Rattle.session_check.proofs.Strand.{isWithin}
-
-pub participant-there : (n initiator k : ℕ) → isParticipant n initiator k ≡ true → k < n
-participant-there n initiator k h = ltb-true k n (and-both (ltb k n) _ h .0)
 
 -- a machine that fits is of as many processes as the tables
 pub fitting-machine : (shape : Shape) (sent received : List ℕ) (session : Session) → initiatorFits shape sent received session ≡ true

@@ -1,4 +1,3 @@
-pub mod Few
 pub mod Read
 pub mod Holds
 pub mod Places

@@ -46,7 +46,7 @@ module _ (n me initiator : ℕ) (s : List ℕ) (formed : messageFormed n me init
   sent-by = ap (λ (m : Message). m .head .sender .0) (sym (read-is n me initiator s formed))
 
   -- what is read fits a slot
-  pub read-short : (end : ℕ) → n ≤ 16 → 1 ≤ end → end ≤ n
+  read-short : (end : ℕ) → n ≤ 16 → 1 ≤ end → end ≤ n
       → participantEnd me initiator (messageRead n me initiator s .head .sender .0) ≡ end
       → length (messageBytes (messageRead n me initiator s)) ≤ slotSize n
   read-short end few some most e =

@@ -3,28 +3,20 @@
 use mathlib.Core.Path.{_≡_}
 use mathlib.Core.Bool.{true}
 use mathlib.Core.List.{List}
-use Prim.Native.Nat.{ℕ, _≤_, _<_}
+use Prim.Native.Nat.{ℕ}
 use native.Mathlib.Omega.{arith}
 use Rattle.matrix.specs.Matrix.{pick}
-use Rattle.machine.specs.Named.{countLimit}
 use Rattle.session.specs.declared.Session.{Session}
 use Rattle.session.specs.declared.Waiting.{Waiting}
 use Rattle.session.specs.declared.Waiting.the-variants.{Nothing, Ending}
 use Rattle.session.specs.Held.{held}
 use Rattle.session.specs.Fits.{strandFits}
-use Rattle.session_theory.proofs.Search.{Search, IsSearch, size, isPart, newer, most}
+use Rattle.session_theory.proofs.Search.{Search, size, isPart}
 use Rattle.session_theory.proofs.Moves.{holding, WaitsFit, EndsFit}
+use Rattle.session_theory.proofs.Few.{most-few}
 use Rattle.session_theory.proofs.Facts.{part-within}
-use Rattle.session_fit.proofs.Few as few
 use Rattle.session_fit.proofs.Holds.{Tells, phase-tells, phase-some, closing-tells, closing-some}
 use Rattle.session_fit.proofs.Places.{session-passes}
-
--- T is at most 256, and so few messages can be delivered that their count stays below its limit
-pub newer-few : (g : Search) → IsSearch g → newer g ≤ 256
-newer-few = few.newer-few
-
-pub most-few : (g : Search) → IsSearch g → most g < countLimit
-most-few = few.most-few
 
 -- question 13 of a strand that holds what it should
 strand-passes : (g : Search) (s : Session) (k : ℕ) (b : List ℕ) (w : Waiting) → Tells g s k b w → strandFits s k (held (size g) s k b) ≡ true

@@ -1,8 +1,8 @@
 -- The machines before the invitation: at one place, and at all sixteen, filled place by place.
-use mathlib.Core.Path.{_≡_, refl, ap, _∙_}
+use mathlib.Core.Path.{_≡_, ap, _∙_}
 use mathlib.Core.Bool.{true, false}
-use mathlib.Core.List.{List, [], _∷_}
-use Prim.Native.Nat.{ℕ, zero, suc, _+_, _-_, _≤_, _<_}
+use mathlib.Core.List.{List, []}
+use Prim.Native.Nat.{ℕ, _+_, _-_, _≤_, _<_}
 use native.Mathlib.Numerals.{add-one}
 use native.Mathlib.Omega.{arith}
 use lib.ListN.{length, getD, set, length-set}
@@ -17,6 +17,7 @@ use Rattle.participant.specs.declared.Participant.{Participant}
 use Rattle.participant.specs.Step.{firstOf}
 use Rattle.participant.specs.Calls.{noParticipant}
 use Rattle.session.specs.Steps.{placeAtStart}
+pub use Rattle.session.proofs.Places.{at-place}
 
 -- ---- one place
 
@@ -53,10 +54,3 @@ placed-more f l k p placed h here =
 
 pub placed-all : (f : ℕ → Participant) (l : List Participant) (k : ℕ) → Placed f l k → 16 ≤ k → l ≡ tab 16 f
 placed-all f l k placed h = tab-is noParticipant 16 f l (placed .long) (λ i m. placed .so-far i (omega arith))
-
--- ---- a place that there is holds the same whatever would stand beyond the end
-
-pub at-place : {A : Type 0} (d e : A) (l : List A) (k : ℕ) → k < length l → getD l k d ≡ getD l k e
-at-place d e [] k h = absurd (omega arith)
-at-place d e (x ∷ l) zero h = refl
-at-place d e (x ∷ l) (suc k) h = at-place d e l k (omega arith)

@@ -23,7 +23,6 @@ use Rattle.machine.specs.Given.{Given}
 use Rattle.machine.specs.Sends.{otherHead, nothing, onlyTo}
 use Rattle.participant.specs.declared.Participant.{Participant}
 use Rattle.participant.specs.declared.ParticipantStep.{ParticipantStep}
-use Rattle.participant.specs.declared.Stage.the-variants.{Before}
 use Rattle.participant.specs.Step as participant
 use Rattle.participant.specs.Calls.{noParticipant}
 use Rattle.initiator.specs.declared.Initiator.{Initiator}
@@ -32,6 +31,7 @@ use Rattle.initiator.specs.Begin.{begin}
 use Rattle.initiator.specs.Step as initiator
 use Rattle.initiator.specs.Calls.{noInitiator, messageQuestion, readBy}
 use Rattle.initiator.proofs.Calls.{sender-there}
+pub use Rattle.session.proofs.Places.{beyond}
 use Rattle.session.specs.declared.Session.{Session}
 use Rattle.session.specs.declared.Turned.{Turned}
 use Rattle.session.specs.Workers.{initiatorOf, participantAt}
@@ -117,20 +117,6 @@ module _ (k initiator : ℕ) (o sent : Outgoing) where
       ∙ ap (λ (j : ℕ). onlyTo (o .head) j (row (o .news) initiator)) e)
 
 -- ---- a message is delivered to participant k
-
--- what stands for a machine beyond the last place
-abbrev pub beyond : Participant
-beyond =
-    record {
-      n = 0;
-      me = record { 0 = 0 };
-      initiator = record { 0 = 0 };
-      purpose = 0;
-      stage = Before;
-      candidate = record { 0 = 0 };
-      row = [];
-      column = [];
-    }
 
 pub given-down : (rows : TableRows) (sent received : List ℕ) (k initiator : ℕ) (p q : Participant) → p ≡ q → q .me .0 ≡ suc k
     → q .initiator .0 ≡ initiator → Given rows sent received (suc k) → (1 ≤ initiator) × (initiator ≤ 16)

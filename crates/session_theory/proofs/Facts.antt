@@ -1,27 +1,28 @@
 -- What follows at once from a search's tables and from where everybody is.
-use mathlib.Core.Path.{_≡_, refl, sym, ap, subst, _∙_}
-use mathlib.Core.Bool.{Bool, true, false, not, _&&_}
+use mathlib.Core.Path.{_≡_, refl, ap}
+use mathlib.Core.Bool.{true, not, _&&_}
 use mathlib.Core.Logic.{_⊎_, inl, inr}
 use Prim.Native.Nat.{ℕ, suc, _-_, _≤_, _<_}
 use native.Mathlib.Decide.{ℕ-discrete}
 use native.Mathlib.Omega.{arith}
-use borrow.Author.Tests.{lt-ltb, eq-eqb, ne-eqb, eqb-true, eqb-false, ltb-true, le-leb, leb-true, not-true}
+use borrow.Author.Tests.{lt-ltb, eq-eqb, ne-eqb, eqb-true, eqb-false, le-leb, leb-true, not-true}
 use lib.Dec.{ltb, leb, eqb}
 use Rattle.book.specs.declared.Process.{Process}
 use Rattle.book.specs.Bounds.{mark}
 use Rattle.book.proofs.Tests.{and-both, both-and}
-use Rattle.line_theory.specs.Sets.{IsBook}
+use Rattle.line_theory.specs.Sets.{IsBook, IsLine}
 use Rattle.line_theory.proofs.Accepted.{accepted-size, accepted-is-book}
+use Rattle.line_theory.proofs.Theorems.{line-is-line}
 use Rattle.message.specs.Formed.{isNamed}
 use Rattle.machine.specs.Named.{participantNamed}
 use Rattle.machine_laws.specs.Own.{IsOwn}
 use Rattle.machine_laws.proofs.Theorems.{accepted-is-own}
 use Rattle.participant.specs.declared.Participant.{Participant}
-use Rattle.participant_laws.proofs.Accepted.{fits-in}
 use Rattle.initiator.specs.Fits.{fits}
 use Rattle.session.specs.declared.Session.{Session}
 use Rattle.session.specs.Workers.{participantAt, standsOn, hasEnded, isEnded}
-use Rattle.session_theory.proofs.Search.{Search, IsSearch, size, lead, isPart, ownIn, viewIn}
+use Rattle.session.proofs.Places.{participant-there}
+use Rattle.session_theory.proofs.Search.{Search, IsSearch, size, lead, isPart, ownIn, viewIn, lineIn}
 use Rattle.session_theory.proofs.Invariant.{Part, Placed}
 
 module _ (g : Search) (is : IsSearch g) where
@@ -53,14 +54,18 @@ module _ (g : Search) (is : IsSearch g) where
 
   pub book-is : IsBook mark (viewIn g)
   book-is = accepted-is-book (g .shape) (g .sent) (g .received) (is .long) (is .accepted)
-  -- ---- participants
+
+  pub line-is : IsLine (viewIn g) (lineIn g)
+  line-is = line-is-line mark (viewIn g) book-is
+
+-- ---- participants
 
 module _ (g : Search) (k : ℕ) where
   pub is-part : k < size g → (k ≡ lead g → ⊥) → isPart g k ≡ true
   is-part h other = rw (lt-ltb k (size g) h, ne-eqb k (lead g) other)
 
   pub part-in : isPart g k ≡ true → k < size g
-  part-in h = ltb-true k (size g) (and-both (ltb k (size g)) (not (eqb k (lead g))) h .0)
+  part-in = participant-there (size g) (lead g) k
 
   pub part-other : isPart g k ≡ true → k ≡ lead g → ⊥
   part-other h = eqb-false k (lead g) (not-true (eqb k (lead g)) (and-both (ltb k (size g)) (not (eqb k (lead g))) h .1))
@@ -79,9 +84,6 @@ module _ (g : Search) (is : IsSearch g) (k : ℕ) (there : isPart g k ≡ true) 
   module _ (p : Participant) (part : Part g k p) where
     pub part-me : p .me .0 - 1 ≡ k
     part-me = omega (arith, ap (λ (q : Process). q .0) (part .me))
-
-    pub part-n : p .n ≡ size g
-    part-n = fits-in (ownIn g k) p (part .fitting) .processes
 
     pub part-named : participantNamed (size g) (p .me .0) (p .initiator .0) ≡ true
     part-named =

@@ -13,10 +13,9 @@ use Rattle.message.specs.declared.Message.{Message}
 use Rattle.message.specs.Layout.{messageBytes}
 use Rattle.mail.specs.declared.Outgoing.{Outgoing}
 use Rattle.mail.specs.Outgoing.{goesTo, messageTo, bytesTo}
-use Rattle.machine.specs.Named.{countLimit}
 use Rattle.machine.specs.Flags.{flag}
 use Rattle.participant.specs.declared.Participant.{Participant}
-use Rattle.participant.specs.declared.Stage.the-variants.{Before, Searching, Ended}
+use Rattle.participant.specs.declared.Stage.the-variants.{Searching, Ended}
 use Rattle.participant.specs.Fits as participant-fits
 use Rattle.participant.specs.Step as participant
 use Rattle.participant.specs.Calls as participant-calls

@@ -1,4 +1,10 @@
 pub mod Search
 pub mod Invariant
-pub mod Moves
 pub mod Facts
+pub mod Moves
+pub mod Counting
+pub mod Few
+pub mod Boxes
+pub mod Changed
+pub mod Kept
+pub mod Placing

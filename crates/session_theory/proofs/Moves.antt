@@ -1,9 +1,9 @@
 -- What each call does to what holds of a session: the statements that the proof of demand 3 is made of.
 use mathlib.Core.Path.{_≡_}
 use mathlib.Core.Bool.{Bool, true, false}
-use mathlib.Core.List.{List, []}
+use mathlib.Core.List.{List}
 use mathlib.Core.Logic.{_⊎_}
-use Prim.Native.Nat.{ℕ, _-_, _≤_, _<_}
+use Prim.Native.Nat.{ℕ, _≤_, _<_}
 use lib.ListN.{length, set}
 use lib.Dec.{eqb}
 use Rattle.book.specs.Bounds.{mostProcesses}
@@ -12,7 +12,7 @@ use Rattle.mail.specs.declared.Outgoing.{Outgoing}
 use Rattle.mail.specs.Outgoing.{goesTo, bytesTo}
 use Rattle.machine.specs.Named.{countLimit}
 use Rattle.exchange_laws.specs.Ends.{isSearch}
-use Rattle.strands.specs.Strands.{slotSize, roomForAll, lengthOn, haveRoom, posted, lengthsPosted}
+use Rattle.strands.specs.Strands.{slotSize, roomForAll, haveRoom, posted}
 use Rattle.session.specs.declared.Session.{Session}
 use Rattle.session.specs.declared.Turned.{Turned}
 use Rattle.session.specs.declared.Waiting.{Waiting}
@@ -21,21 +21,7 @@ use Rattle.session.specs.Held.{held}
 use Rattle.session.specs.Fits.{sessionNamed, sessionPurposes, sessionFits}
 use Rattle.session.specs.Steps.{begun, deliverDown, deliverUp, withPosted}
 use Rattle.session_theory.proofs.Search.{Search, IsSearch, size, lead, isPart}
-use Rattle.session_theory.proofs.Invariant.{
-  Placed,
-  Laid,
-  boxAfter,
-  Phase,
-  quiet,
-  reported,
-  asked,
-  Waits,
-  Ends,
-  Finished,
-  Restarts,
-  Going,
-  Over,
-}
+use Rattle.session_theory.proofs.Invariant.{Laid, boxAfter, Phase, quiet, reported, asked, Waits, Ends, Finished, Restarts, Going, Over}
 
 -- ---- the calls, on a search's tables
 
@@ -55,9 +41,6 @@ ToParticipants g o = (k : ℕ) → k < mostProcesses → goesTo o k ≡ true →
 -- the messages that a call puts on strands are no longer than a slot
 abbrev pub Short : Search → Outgoing → Type 0
 Short g o = (k : ℕ) → k < mostProcesses → goesTo o k ≡ true → length (bytesTo o k) ≤ slotSize (size g)
-
-abbrev pub nothingWaits : ℕ → List ℕ
-nothingWaits k = []
 
 -- ---- strands
 

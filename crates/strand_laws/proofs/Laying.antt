@@ -7,15 +7,15 @@ use native.Mathlib.Omega.{arith}
 use lib.ListN.{length, take, drop}
 use lib.Seq.{sets}
 use Rattle.book.specs.Bounds.{mostProcesses}
-use Rattle.line_theory.proofs.Over.{getD-tab}
 use Rattle.matrix.specs.Matrix.{pick}
 use Rattle.mail.specs.Outgoing.{goesTo, bytesTo}
-use Rattle.strands.specs.Strands.{slotSize, strandStart, lengthOn, strandBytes, haveRoom, posted, lengthsPosted}
+use Rattle.strands.specs.Strands.{slotSize, strandStart, lengthOn, strandBytes, haveRoom, posted}
 use Rattle.session.specs.declared.Session.{Session}
 use Rattle.session.specs.declared.Turned.{Turned}
 use Rattle.session.specs.Steps.{withPosted}
 use Rattle.session_theory.proofs.Search.{Search, IsSearch, size, lead, isPart}
 use Rattle.session_theory.proofs.Invariant.{LaidAt, Laid}
+use Rattle.session_theory.proofs.Boxes.{lengths-at}
 use Rattle.session_theory.proofs.Facts.{part-other, part-within}
 use Rattle.session_theory.proofs.Moves.{ToParticipants, Short}
 use Rattle.strand_laws.proofs.Runs.{sets-apart}
@@ -86,11 +86,8 @@ module _ (g : Search) (is : IsSearch g) (t : Turned) (strands : List ℕ) (leads
   length-then : (k : ℕ) → k < mostProcesses
       → lengthOn (withPosted t .lengths) k
       ≡ pick (goesTo (t .outgoing) k) (length (bytesTo (t .outgoing) k)) (lengthOn (t .session .lengths) k)
-  unfolding withPosted lengthsPosted
-  length-then k small =
-      let f : ℕ → ℕ =
-      λ j. pick (goesTo (t .outgoing) j) (length (bytesTo (t .outgoing) j)) (lengthOn (t .session .lengths) j) in
-      getD-tab mostProcesses f k 0 small
+  unfolding withPosted
+  length-then k small = lengths-at (t .outgoing) (t .session .lengths) k small
 
   same-leader : withPosted t .initiator .0 ≡ g .initiator .0
   unfolding withPosted

@@ -23,6 +23,7 @@ use Rattle.initiator.specs.Calls.{messageQuestion}
 use Rattle.initiator.proofs.Fitting.{fitting-size, fitting-rounds}
 use Rattle.strands.specs.Strands.{slotSize, strandStart, lengthOn, strandBytes}
 use Rattle.session.specs.declared.Session.{Session}
+use Rattle.session.proofs.Places.{participant-there}
 use Rattle.session.specs.declared.Turned.{Turned}
 use Rattle.session.specs.declared.Waiting.{Waiting}
 use Rattle.session.specs.declared.Waiting.the-variants.{Nothing, Asking, Ending, Report, Stray}
@@ -52,7 +53,7 @@ module _ (shape : Shape) (sent received : List ℕ) (session : Session) (strands
       and-both of-initiator (of-places && of-count)
       (and-both (eqb (session .n) (shape .n)) (of-initiator && (of-places && of-count)) fits .1)
 
-  pub fits-delivered : session .delivered < countLimit
+  fits-delivered : session .delivered < countLimit
   fits-delivered = ltb-true (session .delivered) countLimit (and-both of-places of-count (parts .1) .1)
 
   abbrev its-fits : Bool
@@ -65,13 +66,13 @@ module _ (shape : Shape) (sent received : List ℕ) (session : Session) (strands
       let both = and-both (eqb (session .machine .me .0) (session .initiator .0)) (same && its-fits) (parts .0) in
       (both .0, and-both same its-fits (both .1) .1)
 
-  pub fits-me : session .machine .me .0 ≡ session .initiator .0
+  fits-me : session .machine .me .0 ≡ session .initiator .0
   fits-me = eqb-true (session .machine .me .0) (session .initiator .0) (of-machine .0)
 
   pub fits-size : session .machine .n ≡ shape .n
   fits-size = fitting-size (ownOf shape sent received (initiatorOf session)) (session .machine) (of-machine .1)
 
-  pub fits-rounds : session .machine .rounds < countLimit
+  fits-rounds : session .machine .rounds < countLimit
   fits-rounds = fitting-rounds (ownOf shape sent received (initiatorOf session)) (session .machine) (of-machine .1)
 
   module _ (k : ℕ) (there : isParticipant (shape .n) (initiatorOf session) k ≡ true) (few : k < 16) where
@@ -95,7 +96,7 @@ module _ (shape : Shape) (sent received : List ℕ) (session : Session) (strands
     pub fits-within : strandWithin (shape .n) session strands k ≡ true
     fits-within = and-both is-within of-strand (and-both of-its (is-within && of-strand) its-place .1) .0
 
-    pub fits-its : (participantAt session k .me .0 ≡ suc k) × (participantAt session k .initiator .0 ≡ session .initiator .0)
+    fits-its : (participantAt session k .me .0 ≡ suc k) × (participantAt session k .initiator .0 ≡ session .initiator .0)
     unfolding participantFits
     fits-its =
         let p = participantAt session k in
@@ -105,9 +106,6 @@ module _ (shape : Shape) (sent received : List ℕ) (session : Session) (strands
         let rest = and-both its _ (all .1) in
         (eqb-true (p .me .0) (suc k) (all .0), eqb-true (p .initiator .0) (session .initiator .0) (rest .0))
 
-pub there-below : (n initiator k : ℕ) → isParticipant n initiator k ≡ true → k < n
-there-below n initiator k h = ltb-true k n (and-both (ltb k n) _ h .0)
-
 pub deliverable : (rows : TableRows) (sent received : List ℕ) (session : Session) (strands : List ℕ) (k : ℕ)
     → length (rows .shape .counts) ≡ 16 → TablesGiven rows sent received
     → sessionFits (rows .shape) sent received session strands ≡ true
@@ -115,7 +113,7 @@ pub deliverable : (rows : TableRows) (sent received : List ℕ) (session : Sessi
     → isParticipant (rows .shape .n) (initiatorOf session) k ≡ true → Deliverable rows sent received session k
 deliverable rows sent received session strands k sixteen given fits named there =
     let size = accepted-size (rows .shape) sent received (given .accepted) in
-    let below = there-below (rows .shape .n) (initiatorOf session) k there in
+    let below = participant-there (rows .shape .n) (initiatorOf session) k there in
     let few : k < 16 = omega (arith, size, below) in
     let its = fits-its (rows .shape) sent received session strands fits k there few in
     record {

@@ -19,10 +19,10 @@ use Rattle.book.proofs.Questions.{then-none, then-passed, asked-yes, ask-yes}
 use Rattle.line_theory.specs.Over.{allTo, tabFrom}
 use Rattle.message.specs.declared.Head.{Head}
 use Rattle.message.specs.Formed.{isNamed}
-use Rattle.message.proofs.Heads.{named-in}
 use Rattle.machine.specs.Named.{participantNamed, isParticipant}
 use Rattle.machine.specs.Sends.{otherHead, nothing}
 use Rattle.strands.specs.Strands.{haveRoom, posted, lengthOn, strandStart, strandBytes}
+pub use Rattle.participant.proofs.Fitting.{named-there as participant-there}
 use Rattle.session.specs.declared.Session.{Session}
 use Rattle.session.specs.declared.Turned.{Turned}
 use Rattle.session.specs.declared.Waiting.{Waiting}
@@ -48,13 +48,6 @@ tables-given shape sent received rows passed e f =
     }
 
 -- ---- who is named
-
-pub participant-there : (n p initiator : ℕ) → participantNamed n p initiator ≡ true
-    → ((1 ≤ p) × (p ≤ n)) × ((1 ≤ initiator) × (initiator ≤ n))
-participant-there n p initiator h =
-    let both = and-both (isNamed n p) (isNamed n initiator && not (eqb p initiator)) h in
-    let other = and-both (isNamed n initiator) (not (eqb p initiator)) (both .1) in
-    (named-in n p (both .0), named-in n initiator (other .0))
 
 -- counted from 0, it is a participant
 pub is-participant : (n p initiator : ℕ) → participantNamed n p initiator ≡ true → isParticipant n (initiator - 1) (p - 1) ≡ true

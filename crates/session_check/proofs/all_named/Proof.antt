@@ -12,7 +12,8 @@ use Rattle.machine.specs.Named.{participantNamed, isParticipant}
 use Rattle.participant.specs.declared.Participant.{Participant}
 use Rattle.session_check.specs.Parts.{at}
 use Rattle.session_check.proofs.Chains.{told-no, told-yes, not-put, put-yes, put-no}
-use Rattle.session_check.proofs.Naming.{unread, read-at, namedAt}
+use Rattle.session.proofs.Places.{beyond}
+use Rattle.session_check.proofs.Naming.{read-at, namedAt}
 use Rattle.session_check.proofs.all_named.Statement.{statement}
 use Rattle.session_check.proofs.all_named.Tie as tie
 
@@ -36,7 +37,7 @@ long c = search needs
 
 -- the test of the machine that was read
 its : (c : tie.Start Inv-loop μ-loop) (k : ℕ) → k < 16
-    → participantNamed (c .args .n) (getD (c .args .t3) k unread .me .0) (getD (c .args .t3) k unread .initiator .0) ≡ named c k
+    → participantNamed (c .args .n) (getD (c .args .t3) k beyond .me .0) (getD (c .args .t3) k beyond .initiator .0) ≡ named c k
 its c k h = ap (λ (p : Participant). participantNamed (c .args .n) (p .me .0) (p .initiator .0)) (read-at (c .args .t3) k (long c) h)
 
 sub-own : tie.Need-sub-own Inv-loop μ-loop

@@ -13,7 +13,8 @@ use Rattle.machine.specs.Named.{isParticipant}
 use Rattle.participant.specs.declared.Participant.{Participant}
 use Rattle.session_check.specs.Parts.{at}
 use Rattle.session_check.proofs.Chains.{told-no, told-yes, not-put, put-yes, put-no}
-use Rattle.session_check.proofs.Naming.{unread, read-at, purposeAt}
+use Rattle.session.proofs.Places.{beyond}
+use Rattle.session_check.proofs.Naming.{read-at, purposeAt}
 use Rattle.session_check.proofs.all_purposes.Statement.{statement}
 use Rattle.session_check.proofs.all_purposes.Tie as tie
 
@@ -37,7 +38,7 @@ long c = search needs
 
 -- the test of the machine that was read
 its : (c : tie.Start Inv-loop μ-loop) (k : ℕ) → k < 16
-    → isPurpose (getD (c .args .t3) k unread .purpose) ≡ purposed c k
+    → isPurpose (getD (c .args .t3) k beyond .purpose) ≡ purposed c k
 its c k h = ap (λ (p : Participant). isPurpose (p .purpose)) (read-at (c .args .t3) k (long c) h)
 
 sub-own : tie.Need-sub-own Inv-loop μ-loop

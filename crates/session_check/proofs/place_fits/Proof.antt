@@ -12,9 +12,10 @@ use Rattle.session.specs.Workers.{participantAt}
 use Rattle.session.specs.Fits.{strandWithin, isAbsent}
 use Rattle.session_check.specs.Parts.{machineFits, heldFits}
 use Rattle.session_check.proofs.Chains.{told-no, told-yes}
-use Rattle.session_check.proofs.Naming.{unread, read-at}
+use Rattle.session.proofs.Places.{beyond, participant-there}
+use Rattle.session_check.proofs.Naming.{read-at}
 use Rattle.session_check.proofs.Strand.{isWithin}
-use Rattle.session_check.proofs.Places.{participant-there, place-absent, place-taken, place-machine, place-within, place-held}
+use Rattle.session_check.proofs.Places.{place-absent, place-taken, place-machine, place-within, place-held}
 use Rattle.session_check.proofs.place_fits.Statement.{statement}
 use Rattle.session_check.proofs.place_fits.Tie as tie
 
@@ -22,7 +23,7 @@ long : (c : tie.Start) → length (c .args .session .participants) ≡ 16
 long c = simp length-map at (c .good .0 .1 .1 .1 .1 .1 .1 .0 .1 .0 .1)
 
 -- the machine that was read is the one at the place
-its : (c : tie.Start) → let a = c .args in getD (a .session .participants) (a .k) unread ≡ participantAt (a .session) (a .k)
+its : (c : tie.Start) → let a = c .args in getD (a .session .participants) (a .k) beyond ≡ participantAt (a .session) (a .k)
 its c = let a = c .args in read-at (a .session .participants) (a .k) (long c) (c .pre .1 .1 .1)
 
 mul-p : tie.Need-mul-p

@@ -11,7 +11,8 @@ use Rattle.strands.specs.Strands.{lengthOn}
 use Rattle.session.specs.Workers.{initiatorOf}
 use Rattle.session.specs.Held.{waitingBytes, held}
 use Rattle.session.specs.Fits.{strandWithin}
-use Rattle.turns.proofs.Delivering.{fits-size, fits-within, there-below, deliverable, strand-end, part-is, handed-over}
+use Rattle.session.proofs.Places.{participant-there}
+use Rattle.turns.proofs.Delivering.{fits-size, fits-within, deliverable, strand-end, part-is, handed-over}
 use Rattle.turns.proofs.deliver.deliver.Statement.{statement}
 use Rattle.turns.proofs.deliver.deliver.Tie as tie
 
@@ -24,7 +25,7 @@ size c = let a = c .args in accepted-size (a .rows .shape) (a .sent .now) (a .re
 few : (c : tie.Start) → c .args .k < 16
 few c =
     let a = c .args in
-    let below = there-below (a .rows .shape .n) (initiatorOf (a .session)) (a .k) (c .pre .1 .1 .1 .0) in
+    let below = participant-there (a .rows .shape .n) (initiatorOf (a .session)) (a .k) (c .pre .1 .1 .1 .0) in
     omega (arith, size c, below)
 
 within : (c : tie.Start) → let a = c .args in strandWithin (a .rows .shape .n) (a .session) (a .strands .now) (a .k) ≡ true

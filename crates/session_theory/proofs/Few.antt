@@ -5,16 +5,14 @@ use Prim.Native.Nat.{ℕ, zero, suc, _+_, _-_, _*_, _≤_, _<_}
 use native.Mathlib.Nat.{mul-le-mul}
 use native.Mathlib.Omega.{arith}
 use lib.ListN.{take, getD}
-use Rattle.book.specs.Bounds.{mark}
 use Rattle.book.specs.View.{sum}
 use Rattle.book.proofs.Sums.{sum-more, sum-take}
 use Rattle.line_theory.specs.Over.{sumTo}
-use Rattle.line_theory.specs.Sets.{IsSet}
 use Rattle.line_theory.proofs.Accepted.{accepted-few}
-use Rattle.line_theory.proofs.Theorems.{line-is-line, passed-is-distance}
+use Rattle.line_theory.proofs.Theorems.{passed-is-distance}
 use Rattle.machine.specs.Named.{countLimit}
 use Rattle.session_theory.proofs.Search.{Search, IsSearch, size, viewIn, lineIn, newer, most}
-use Rattle.session_theory.proofs.Facts.{few, book-is}
+use Rattle.session_theory.proofs.Facts.{few, line-is}
 
 -- the first counts added up, place by place
 sum-counts : (counts : List ℕ) (k : ℕ) → sumTo k (λ j. getD counts j 0) ≡ sum (take k counts)
@@ -25,15 +23,12 @@ sum-counts counts (suc k) =
     omega (arith, sum-more counts k)
 
 module _ (g : Search) (is : IsSearch g) where
-  line-set : IsSet (viewIn g) (lineIn g)
-  line-set = line-is-line mark (viewIn g) (book-is g is) .is-set
-
   pub newer-few : newer g ≤ 256
   newer-few =
       let counts : List ℕ = g .shape .counts in
       omega (
         arith,
-        passed-is-distance (viewIn g) (lineIn g) line-set,
+        passed-is-distance (viewIn g) (lineIn g) (line-is g is .is-set),
         sum-counts counts (size g),
         sum-take counts (size g),
         accepted-few (g .shape) (g .sent) (g .received) (is .long) (is .accepted),

@@ -16,10 +16,10 @@ use Rattle.initiator.specs.Fits as initiator
 use Rattle.strands.specs.Strands.{lengthOn, lengthsPosted}
 use Rattle.session.specs.declared.Session.{Session}
 use Rattle.session.specs.Steps.{deliveredOn, withPosted}
 use Rattle.session_theory.proofs.Search.{Search, lead, isPart, ownIn}
 use Rattle.session_theory.proofs.Invariant.{Part, Placed}
 use Rattle.session_theory.proofs.Moves.{ToParticipants}
-use Rattle.search_turns.proofs.Strand.{lengths-long, lengths-none}
+use Rattle.session_theory.proofs.Boxes.{lengths-long, lengths-none}
 
 -- the session after a delivery on k's strand, with these machines, and what is sent
 abbrev pub afterDelivery : Session → ℕ → Initiator → List Participant → Outgoing → Session
@@ -27,13 +27,13 @@ afterDelivery s k machine participants o =
     withPosted (record { session = deliveredOn s k machine participants; outgoing = o })
 
 -- the initiator's machine is one of this search
-pub record Leads (g : Search) (machine : Initiator) : Type 0 where
+pub record IsLead (g : Search) (machine : Initiator) : Type 0 where
   pub me : machine .me ≡ g .initiator
   pub purpose : machine .purpose ≡ g .purpose
   pub fitting : initiator.fits (ownIn g (lead g)) machine ≡ true
 
 -- and so are the participants'
-pub record Follow (g : Search) (participants : List Participant) : Type 0 where
+pub record AreParts (g : Search) (participants : List Participant) : Type 0 where
   pub long : length participants ≡ 16
   pub part : (q : ℕ) → isPart g q ≡ true → Part g q (getD participants q noParticipant)
   pub absent : (q : ℕ) → q < 16 → isPart g q ≡ false → getD participants q noParticipant ≡ noParticipant
@@ -43,11 +43,11 @@ pub not-part : (g : Search) (k q : ℕ) → isPart g k ≡ true → isPart g q �
 not-part g k q there none e = true≢false (sym there ∙ (rw e at none))
 
 module _ (g : Search) (s : Session) (placed : Placed g s) where
-  pub leads-before : Leads g (s .machine)
+  pub leads-before : IsLead g (s .machine)
   leads-before =
       record { me = placed .machine-me; purpose = placed .machine-purpose; fitting = placed .machine-fits }
 
-  pub follow-before : Follow g (s .participants)
+  pub follow-before : AreParts g (s .participants)
   follow-before =
       record {
         long = placed .all-participants;
@@ -57,7 +57,7 @@ module _ (g : Search) (s : Session) (placed : Placed g s) where
 
   module _ (k : ℕ) (there : isPart g k ≡ true) where
     -- one participant is another
-    pub follow-one : (p : Participant) → k < 16 → Part g k p → Follow g (set (s .participants) k p)
+    pub follow-one : (p : Participant) → k < 16 → Part g k p → AreParts g (set (s .participants) k p)
     follow-one p h part =
         record {
           long = simp length-set (placed .all-participants);
@@ -80,8 +80,8 @@ module _ (g : Search) (s : Session) (placed : Placed g s) where
         unsent true sent = absurd (true≢false (sym (sent refl) ∙ none))
         unsent false sent = refl
 
-    pub placed-again : (machine : Initiator) (participants : List Participant) (o : Outgoing) → Leads g machine
-        → Follow g participants → ToParticipants g o → Placed g (afterDelivery s k machine participants o)
+    pub placed-again : (machine : Initiator) (participants : List Participant) (o : Outgoing) → IsLead g machine
+        → AreParts g participants → ToParticipants g o → Placed g (afterDelivery s k machine participants o)
     unfolding withPosted
     placed-again machine participants o leads follow to =
         record {

@@ -1,0 +1,37 @@
+-- Places: the machine at one, as the code reads it, and who is at one.
+use mathlib.Core.Path.{_≡_, refl}
+use mathlib.Core.Bool.{true, not}
+use mathlib.Core.List.{List, [], _∷_}
+use Prim.Native.Nat.{ℕ, zero, suc, _<_}
+use native.Mathlib.Omega.{arith}
+use borrow.Author.Tests.{ltb-true}
+use lib.ListN.{length, getD}
+use lib.Dec.{ltb, eqb}
+use Rattle.book.proofs.Tests.{and-both}
+use Rattle.machine.specs.Named.{isParticipant}
+use Rattle.participant.specs.declared.Participant.{Participant}
+use Rattle.participant.specs.declared.Stage.the-variants.{Before}
+
+-- what stands for a machine beyond the last place
+abbrev pub beyond : Participant
+beyond =
+    record {
+      n = 0;
+      me = record { 0 = 0 };
+      initiator = record { 0 = 0 };
+      purpose = 0;
+      stage = Before;
+      candidate = record { 0 = 0 };
+      row = [];
+      column = [];
+    }
+
+-- a place that there is holds the same whatever would stand beyond the end
+pub at-place : {A : Type 0} (d e : A) (l : List A) (k : ℕ) → k < length l → getD l k d ≡ getD l k e
+at-place d e [] k h = absurd (omega arith)
+at-place d e (x ∷ l) zero h = refl
+at-place d e (x ∷ l) (suc k) h = at-place d e l k (omega arith)
+
+-- a participant is a process that there is
+pub participant-there : (n initiator k : ℕ) → isParticipant n initiator k ≡ true → k < n
+participant-there n initiator k h = ltb-true k n (and-both (ltb k n) (not (eqb k initiator)) h .0)
