@@ -26,11 +26,11 @@ use Rattle.session_theory.proofs.Invariant.{Placed}
 use Rattle.session_theory.proofs.Facts.{initiator-some}
 use Rattle.demand3.proofs.Kept.{placed-in}
 use Rattle.searches.specs.Lowest.{searched}
-use Rattle.searches.specs.Search.{searchQuestion, setSearched, passedSearched, roundsSearched, messagesSearched}
+use Rattle.searches.specs.Search.{EndedThere, searchQuestion, setSearched, passedSearched, roundsSearched, messagesSearched}
 use Rattle.searches.specs.Parts.{Among}
 use Rattle.searches.proofs.Begin.{InSession, kept-in}
 use Rattle.searches.proofs.Ends.{endIn}
-use Rattle.searches.proofs.Theorems.{searchIn, is-search, searched-ended, searched-stands}
+use Rattle.searches.proofs.Theorems.{search-ends, searchIn, is-search, searched-ended, searched-stands}
 use Rattle.searches.proofs.Sets.{checkpoints-same, end-is-among, end-passed}
 
 module _ (shape : Shape) (sent received : List ℕ) (initiator : Process) (purpose : ℕ) where
@@ -50,7 +50,8 @@ module _ (shape : Shape) (sent received : List ℕ) (initiator : Process) (purpo
       × ((set ≡ setSearched shape sent received initiator purpose)
       × ((newer ≡ passedSearched shape sent received initiator purpose)
       × ((rounds ≡ roundsSearched shape sent received initiator purpose)
-      × (messages ≡ messagesSearched shape sent received initiator purpose))))
+      × ((messages ≡ messagesSearched shape sent received initiator purpose)
+      × EndedThere shape sent received initiator purpose))))
 
   -- ---- the questions
 
@@ -76,7 +77,10 @@ module _ (shape : Shape) (sent received : List ℕ) (initiator : Process) (purpo
           b ∙ sym (kept-refused question noLine _ fails),
           (
             c ∙ sym (kept-refused question 0 _ fails),
-            (d ∙ sym (kept-refused question 0 _ fails), f ∙ sym (kept-refused question 0 _ fails)),
+            (
+              d ∙ sym (kept-refused question 0 _ fails),
+              (f ∙ sym (kept-refused question 0 _ fails), λ none. absurd (fails none)),
+            ),
           ),
         ),
       )
@@ -128,7 +132,10 @@ module _ (shape : Shape) (sent received : List ℕ) (initiator : Process) (purpo
                 ∙ sym (kept-passed question 0 (passed (viewIn g) (endIn g)) accepted),
             (
               ap (λ (t : Session). t .machine .rounds) same ∙ sym (kept-passed question 0 (o .session .machine .rounds) accepted),
-              ap (λ (t : Session). t .delivered) same ∙ sym (kept-passed question 0 (o .session .delivered) accepted),
+              (
+                ap (λ (t : Session). t .delivered) same ∙ sym (kept-passed question 0 (o .session .delivered) accepted),
+                search-ends shape sent received initiator purpose long,
+              ),
             ),
           ),
         ),

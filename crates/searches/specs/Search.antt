@@ -53,12 +53,17 @@ module _ (shape : Shape) (sent received : List ℕ) (initiator : Process) (purpo
   unfoldable pub messagesSearched : ℕ
   messagesSearched = unlessRefused refusal 0 (searched shape sent received initiator purpose .session .delivered)
 
--- In the session that ran everybody has ended there, and nothing waits.
+  -- in the session that ran everybody has ended there, and nothing waits
+  abbrev pub EndedThere : Type 0
+  EndedThere =
+      refusal ≡ 0
+      → let s : Session = searched shape sent received initiator purpose .session in
+      ((j : ℕ) → j < shape .n
+      → (hasEnded s j ≡ true) × (standsOn s j ≡ endOf (viewOf shape sent received) purpose j))
+      × (messageWaits s ≡ false)
+
+-- A search that is accepted comes to its end, and everybody has ended there.
 abbrev pub SearchEnds : Type 0
 SearchEnds =
     (shape : Shape) (sent received : List ℕ) (initiator : Process) (purpose : ℕ) → length (shape .counts) ≡ mostProcesses
-    → searchQuestion shape sent received initiator purpose ≡ 0
-    → let s : Session = searched shape sent received initiator purpose .session in
-    ((j : ℕ) → j < shape .n
-    → (hasEnded s j ≡ true) × (standsOn s j ≡ endOf (viewOf shape sent received) purpose j))
-    × (messageWaits s ≡ false)
+    → EndedThere shape sent received initiator purpose

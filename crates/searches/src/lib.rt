@@ -16,7 +16,7 @@ ghost use Rattle.session.specs.Calls.{noSession};
 ghost use Rattle.session.specs.Turns.{started, afterTurns};
 ghost use Rattle.searches.specs.Lowest.{strandsInside, searched};
 ghost use Rattle.searches.specs.Run.{asProcesses, runQuestion, shapeRun, sentRun, receivedRun, sessionRun, CarriesDemand3};
-ghost use Rattle.searches.specs.Search.{searchQuestion, setSearched, passedSearched, roundsSearched, messagesSearched};
+ghost use Rattle.searches.specs.Search.{searchQuestion, setSearched, passedSearched, roundsSearched, messagesSearched, EndedThere};
 
 // How many bytes sixteen processes' strands take: the strands of a search lie inside.
 pub const STRANDS: usize = 1410;
@@ -163,8 +163,8 @@ fn start_and_finish(
     finish::finish(begun.session, shape, sent, received, &mut strands)
 }
 
-// A search from its start to its end: turns are taken, lowest waiting strand first, until nothing waits. Questions: the tables',
-// 10, 11.
+// A search from its start to its end: turns are taken, lowest waiting strand first, until nothing waits; then everybody has
+// ended. Questions: the tables', 10, 11.
 pub fn search(
     shape: Shape,
     sent: &[Counter],
@@ -177,6 +177,7 @@ pub fn search(
     ensures { λ r. ⌜ r .passed ≡ passedSearched shape (now (sent .entry)) (now (received .entry)) initiator purpose ⌝ }
     ensures { λ r. ⌜ r .rounds ≡ roundsSearched shape (now (sent .entry)) (now (received .entry)) initiator purpose ⌝ }
     ensures { λ r. ⌜ r .messages ≡ messagesSearched shape (now (sent .entry)) (now (received .entry)) initiator purpose ⌝ }
+    ensures { λ _. ⌜ EndedThere shape (now (sent .entry)) (now (received .entry)) initiator purpose ⌝ }
 {
     let question = tables::question(shape, sent, received);
     if question != 0 {

@@ -21,7 +21,7 @@ returns c =
     (told .1 .0)
     (told .1 .1 .0)
     (told .1 .1 .1 .0)
-    (told .1 .1 .1 .1)
+    (told .1 .1 .1 .1 .0)
     (c .found-text .ensures)
 
 pub search-text-spec : {M : Type 1} → statement M
