@@ -2,7 +2,8 @@
 // the check of tables and the writer have in common. The definitions that their contracts cite are this crate's specs.
 ghost use mathlib.Core.Path.{_≡_};
 ghost use Prim.Native.Nat.{_+_, _-_, _*_, _≤_, _<_};
-ghost use lib.ListN.{length, getD};
+ghost use lib.ListN.{length, replicate, getD};
+ghost use lib.Seq.{sets};
 ghost use Rattle.book.specs.Tables.{column};
 ghost use Rattle.book.specs.View.{sum, firstRows, counterAt};
 ghost use Rattle.book.specs.Questions.{zeroIfOldest, counterQuestion};
@@ -139,4 +140,16 @@ pub fn counter(rows: TableRows, table: &[Counter], j: Process, r: Checkpoint, p:
     let row = first[i] + (r.0 - 1);
     let at = row * ROW_WIDTH + (p.0 - 1);
     Count(table[at])
+}
+
+// Zeros from an entry up to another.
+pub fn clear(table: &mut [Counter], from: usize, to: usize)
+    requires { ⌜ (from ≤ to) × (to ≤ length (now table)) ⌝ }
+    ensures { λ _. ⌜ now (table .exit) ≡ sets (now (table .entry)) from (replicate (to - from) 0) ⌝ }
+{
+    let mut i = from;
+    while i < to {
+        table[i] = 0;
+        i += 1;
+    }
 }

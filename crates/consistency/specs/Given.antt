@@ -5,6 +5,7 @@ use mathlib.Core.Bool.{true}
 use mathlib.Core.List.{List}
 use Prim.Native.Nat.{ℕ, _-_, _≤_, _<_}
 use lib.ListN.{length}
+use Rattle.book.specs.declared.Shape.{Shape}
 use Rattle.book.specs.declared.TableRows.{TableRows}
 use Rattle.book.specs.declared.Checkpoint.{Checkpoint}
 use Rattle.book.specs.declared.Count.{Count}
@@ -38,8 +39,8 @@ pub record SetGiven (rows : TableRows) (sent received : List ℕ) (set : List Ch
   pub is-set : IsSet (viewOf (rows .shape) sent received) (chosen set)
 
 -- the checkpoints of a set, of each process that there is, are in the tables
-abbrev pub AllNamed : TableRows → List Checkpoint → Type 0
-AllNamed rows set = (p : ℕ) → p < rows .shape .n → (1 ≤ chosen set p) × (chosen set p ≤ count (rows .shape) p)
+abbrev pub AllNamed : Shape → List Checkpoint → Type 0
+AllNamed shape set = (p : ℕ) → p < shape .n → (1 ≤ chosen set p) × (chosen set p ≤ count shape p)
 
 -- what the checkpoints of a set have sent to process j
 abbrev pub AreSentTo : TableRows → List ℕ → List Checkpoint → ℕ → List Count → Type 0

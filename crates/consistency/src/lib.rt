@@ -91,7 +91,7 @@ pub fn is_permitted(permission: Permission) -> bool
 // What the checkpoints of a set have sent to process j; zero for absent processes.
 fn sent_to(rows: TableRows, sent: &[Counter], set: [Checkpoint; 16], j: Process) -> [Count; 16]
     requires { ⌜ Whole rows (now sent) × IsProcess rows (j .0) ⌝ }
-    requires { ⌜ AllNamed rows set ⌝ }
+    requires { ⌜ AllNamed (rows .shape) set ⌝ }
     ensures { λ known. ⌜ AreSentTo rows (now (sent .entry)) set (j .0 - 1) known ⌝ }
 {
     let shape = rows.shape;

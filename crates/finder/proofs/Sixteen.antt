@@ -22,7 +22,14 @@ checkpoints-are set c long same =
     at : (j : ℕ) → j < 16 → _≡_ {A = Checkpoint} (getD set j (record { 0 = 0 })) (record { 0 = c j })
     at j i = ap {B = Checkpoint} (λ (k : ℕ). record { 0 = k }) (same j i)
 
--- and back, for numbers that are zero from the sixteenth on
+-- and back
+pub chosen-there : (c : ℕ → ℕ) (j : ℕ) → j < 16 → chosen (checkpoints c) j ≡ c j
+unfolding checkpoints
+chosen-there c j small =
+    let f : ℕ → Checkpoint = λ i. record { 0 = c i } in
+    ap (λ (r : Checkpoint). r .0) (getD-tab 16 f j (record { 0 = 0 }) small)
+
+-- as functions, where the numbers are zero from the sixteenth on
 pub chosen-of : (c : ℕ → ℕ) → ((j : ℕ) → 16 ≤ j → c j ≡ 0) → chosen (checkpoints c) ≡ c
 unfolding checkpoints
 chosen-of c absent = fun-ext (λ j. at j)
@@ -33,8 +40,16 @@ chosen-of c absent = fun-ext (λ j. at j)
     at : (j : ℕ) → chosen (tab 16 f) j ≡ c j
     at j =
         elim (decLt j 16) [
-          | yes k ↦ ap (λ (r : Checkpoint). r .0) (getD-tab 16 f j (record { 0 = 0 }) k)
+          | yes k ↦ chosen-there c j k
           | no k ↦
               ap (λ (r : Checkpoint). r .0) (List·getD-eq-default (tab 16 f) (record { 0 = 0 }) {n = j} (omega (arith, length-tab 16 f)))
               ∙ sym (absent j (omega arith))
         ]
+
+pub checkpoints-long : (c : ℕ → ℕ) → length (checkpoints c) ≡ 16
+unfolding checkpoints
+checkpoints-long c = let f : ℕ → Checkpoint = λ i. record { 0 = c i } in length-tab 16 f
+
+pub checkpoints-same : (c d : ℕ → ℕ) → ((j : ℕ) → j < 16 → c j ≡ d j) → checkpoints c ≡ checkpoints d
+checkpoints-same c d same =
+    checkpoints-are (checkpoints c) d (checkpoints-long c) (λ j small. chosen-there c j small ∙ same j small)

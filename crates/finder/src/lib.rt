@@ -194,7 +194,7 @@ pub fn find_from(
 }
 
 // The newest checkpoint of every process.
-fn newest_set(shape: Shape) -> [Checkpoint; 16]
+pub fn newest_set(shape: Shape) -> [Checkpoint; 16]
     ensures { λ set. ⌜ set ≡ checkpoints (count shape) ⌝ }
 {
     let counts = shape.counts;

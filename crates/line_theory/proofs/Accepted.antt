@@ -3,6 +3,7 @@
 use mathlib.Core.Path.{_≡_, refl, sym, ap, subst, _∙_}
 use mathlib.Core.Bool.{true}
 use mathlib.Core.List.{List, [], _∷_, _++_}
+use mathlib.Core.Logic.{_⊎_, inl, inr}
 use Prim.Native.Nat.{ℕ, zero, suc, _+_, _-_, _*_, _≤_, _<_}
 use native.Mathlib.Nat.{add-zero, zero-add}
 use native.Mathlib.Decide.{decLt, ℕ-discrete}
@@ -42,40 +43,57 @@ sum-held (suc k) [] z = refl
 sum-held zero (v ∷ l) z = let e = zero-at (v ∷ l) z 0 in let ih = sum-held zero l (zero-cons v l z .1) in omega arith
 sum-held (suc k) (v ∷ l) z = ap (λ x. v + x) (sum-held k l z)
 
--- ---- the own column
+-- ---- unused columns
+
+-- a column that process j does not use: its own, and those of absent processes
+abbrev pub Unused : ℕ → ℕ → ℕ → Type 0
+Unused n j q = (q ≡ j) ⊎ ((n ≤ q) × (q < 16))
+
+-- in the first row of a table
+unused-first : (n j q : ℕ) (table : List ℕ) → getD table j 0 ≡ 0 → allZero (drop n (take 16 table)) ≡ true → Unused n j q → getD table q 0 ≡ 0
+unused-first n j q table own absent (inl e) = rw e own
+unused-first n j q table own absent (inr (out, few)) =
+    let e : n + (q - n) ≡ q = omega arith in
+    rw (getD-drop n (take 16 table) (q - n) 0, e, getD-take 16 table q 0 few) at (zero-at (drop n (take 16 table)) absent (q - n))
 
 -- of a process whose rows begin the table
-own-of : (n j c : ℕ) (table : List ℕ) → allZero (unusedOf n j c table) ≡ true → (r : ℕ) → r < c → getD table (r * 16 + j) 0 ≡ 0
+unused-of : (n j q c : ℕ) (table : List ℕ) → Unused n j q → allZero (unusedOf n j c table) ≡ true → (r : ℕ) → r < c
+    → getD table (r * 16 + q) 0 ≡ 0
 unfolding unusedOf
-own-of n j zero table z r h = absurd (omega arith)
-own-of n j (suc c) table z zero h =
-    rw (zero-add j)
-    (eqb-true (getD table j 0) 0 (zero-cons (getD table j 0) (drop n (take 16 table) ++ unusedOf n j c (drop 16 table)) z .0))
-own-of n j (suc c) table z (suc r) h =
+unused-of n j q zero table u z r h = absurd (omega arith)
+unused-of n j q (suc c) table u z zero h =
+    let row : List ℕ = drop n (take 16 table) in
     let rest : List ℕ = unusedOf n j c (drop 16 table) in
-    let later = append-zeros (drop n (take 16 table)) rest (zero-cons (getD table j 0) (drop n (take 16 table) ++ rest) z .1) in
-    let e : suc r * 16 + j ≡ 16 + (r * 16 + j) = omega arith in
-    rw (e, ← getD-drop 16 table (r * 16 + j) 0) (own-of n j c (drop 16 table) (later .1) r (omega arith))
+    let both = zero-cons (getD table j 0) (row ++ rest) z in
+    rw (zero-add q) (unused-first n j q table (eqb-true (getD table j 0) 0 (both .0)) (append-zeros row rest (both .1) .0) u)
+unused-of n j q (suc c) table u z (suc r) h =
+    let row : List ℕ = drop n (take 16 table) in
+    let rest : List ℕ = unusedOf n j c (drop 16 table) in
+    let later = append-zeros row rest (zero-cons (getD table j 0) (row ++ rest) z .1) in
+    let e : suc r * 16 + q ≡ 16 + (r * 16 + q) = omega arith in
+    rw (e, ← getD-drop 16 table (r * 16 + q) 0) (unused-of n j q c (drop 16 table) u (later .1) r (omega arith))
 
 -- of process i after j others
-own-from : (n j : ℕ) (counts table : List ℕ) → allZero (unusedFrom n j counts table) ≡ true → (i r : ℕ) → r < getD counts i 0
-    → getD table ((sum (take i counts) + r) * 16 + (j + i)) 0 ≡ 0
+unused-from : (n j q : ℕ) (counts table : List ℕ) → allZero (unusedFrom n j counts table) ≡ true → (i r : ℕ) → Unused n (j + i) q
+    → r < getD counts i 0 → getD table ((sum (take i counts) + r) * 16 + q) 0 ≡ 0
 unfolding unusedFrom sum
-own-from n j [] table z i r h = absurd (omega arith)
-own-from n j (c ∷ counts) table z zero r h =
-    rw (zero-add r, add-zero j)
-    (own-of n j c table (append-zeros (unusedOf n j c table) (unusedFrom n (suc j) counts (drop (c * 16) table)) z .0) r h)
-own-from n j (c ∷ counts) table z (suc i) r h =
+unused-from n j q [] table z i r u h = absurd (omega arith)
+unused-from n j q (c ∷ counts) table z zero r u h =
+    rw (zero-add r)
+    (unused-of n j q c table (rw (add-zero j) at u)
+    (append-zeros (unusedOf n j c table) (unusedFrom n (suc j) counts (drop (c * 16) table)) z .0) r h)
+unused-from n j q (c ∷ counts) table z (suc i) r u h =
     let before : ℕ = sum (take i counts) in
-    let e : (c + before + r) * 16 + (j + suc i) ≡ c * 16 + ((before + r) * 16 + (suc j + i)) = omega arith in
-    rw (e, ← getD-drop (c * 16) table ((before + r) * 16 + (suc j + i)) 0)
-    (own-from n (suc j) counts (drop (c * 16) table)
-    (append-zeros (unusedOf n j c table) (unusedFrom n (suc j) counts (drop (c * 16) table)) z .1) i r h)
+    let e : (c + before + r) * 16 + q ≡ c * 16 + ((before + r) * 16 + q) = omega arith in
+    let next : j + suc i ≡ suc j + i = omega arith in
+    rw (e, ← getD-drop (c * 16) table ((before + r) * 16 + q) 0)
+    (unused-from n (suc j) q counts (drop (c * 16) table)
+    (append-zeros (unusedOf n j c table) (unusedFrom n (suc j) counts (drop (c * 16) table)) z .1) i r (rw next at u) h)
 
 -- ---- the other columns
 
 -- what holds of the own column and of the column of each of the others holds of every process
-by-column : (P : ℕ → Type 0) (n j : ℕ) → j < n → P j → ((k : ℕ) → k < n - 1 → P (column j k)) → (p : ℕ) → p < n → P p
+pub by-column : (P : ℕ → Type 0) (n j : ℕ) → j < n → P j → ((k : ℕ) → k < n - 1 → P (column j k)) → (p : ℕ) → p < n → P p
 unfolding column
 by-column P n j h own other p m =
     elim (decLt p j) [
@@ -98,14 +116,14 @@ module _ (shape : Shape) (sent received : List ℕ) where
   accepted-lengths h = let c = tables-taken shape sent received h in (c .sent, c .received)
 
 module _ (shape : Shape) (sent received : List ℕ) (sixteen : length (shape .counts) ≡ 16) (accepted : tablesQuestion shape sent received ≡ 0) where
-  abbrev book : Book
+  abbrev pub book : Book
   book = bookOf shape sent received
 
   -- the counts of the processes that there are
-  abbrev held : List ℕ
+  abbrev pub held : List ℕ
   held = take (shape .n) (shape .counts)
 
-  checked : Checked shape sent received
+  pub checked : Checked shape sent received
   checked = tables-taken shape sent received accepted
 
   pub accepted-few : sum (shape .counts) ≤ 256
@@ -117,33 +135,33 @@ module _ (shape : Shape) (sent received : List ℕ) (sixteen : length (shape .co
       rw (getD-drop (shape .n) (shape .counts) (j - shape .n) 0, e) at
       (zero-at (drop (shape .n) (shape .counts)) (checked .counts-zero) (j - shape .n))
 
-  well : WellFormed book
+  pub well : WellFormed book
   well = good-well book (of-good shape sent received sixteen checked)
 
-  -- a process's own column, at its checkpoint r, counted from 0
-  own-entry : (table : List ℕ) → allZero (unusedFrom (shape .n) 0 held table) ≡ true → (j r : ℕ) → j < shape .n
-      → r < count shape j → counterAt (shape .counts) table j (suc r) j ≡ 0
-  own-entry table z j r h m =
+  -- an unused column of process j, at its checkpoint r, counted from 0
+  pub unused-entry : (table : List ℕ) → allZero (unusedFrom (shape .n) 0 held table) ≡ true → (j r q : ℕ) → j < shape .n
+      → r < count shape j → Unused (shape .n) j q → counterAt (shape .counts) table j (suc r) q ≡ 0
+  unused-entry table z j r q h m u =
       let back : suc r - 1 ≡ r = omega arith in
       rw back
-      (rw (take-take j (shape .n) (shape .counts) (omega arith), zero-add j) at
-      (own-from (shape .n) 0 held table z j r (rw (getD-take (shape .n) (shape .counts) j 0 h) m)))
+      (rw (take-take j (shape .n) (shape .counts) (omega arith)) at
+      (unused-from (shape .n) 0 q held table z j r (rw (zero-add j) u) (rw (getD-take (shape .n) (shape .counts) j 0 h) m)))
 
   -- the entries of that checkpoint
   module _ (j r : ℕ) (h : j < shape .n) (m : r < count shape j) where
-    inside : r < length (process book j)
+    pub inside : r < length (process book j)
     inside = rw (view-count shape sent received sixteen checked j h) at m
 
-    sent-own : S shape sent j (suc r) j ≡ 0
-    sent-own = own-entry sent (checked .sent-zero) j r h m
+    pub sent-own : S shape sent j (suc r) j ≡ 0
+    sent-own = unused-entry sent (checked .sent-zero) j r j h m (inl refl)
 
-    received-own : R shape received j (suc r) j ≡ 0
-    received-own = own-entry received (checked .received-zero) j r h m
+    pub received-own : R shape received j (suc r) j ≡ 0
+    received-own = unused-entry received (checked .received-zero) j r j h m (inl refl)
 
-    sent-of : (k : ℕ) → k < shape .n - 1 → S shape sent j (suc r) (column j k) ≡ counter book j r k
+    pub sent-of : (k : ℕ) → k < shape .n - 1 → S shape sent j (suc r) (column j k) ≡ counter book j r k
     sent-of k i = view-sent shape sent received sixteen checked j h r k m i
 
-    received-of : (k : ℕ) → k < shape .n - 1 → R shape received j (suc r) (column j k) ≡ counter book j r (shape .n - 1 + k)
+    pub received-of : (k : ℕ) → k < shape .n - 1 → R shape received j (suc r) (column j k) ≡ counter book j r (shape .n - 1 + k)
     received-of k i = view-received shape sent received sixteen checked j h r k m i
 
   accepted-book : IsBook mark (viewOf shape sent received)

@@ -2,10 +2,12 @@
 -- one is true.
 use mathlib.Core.Path.{_≡_, refl, sym, ap, _∙_}
 use mathlib.Core.Bool.{Bool, true, false, true≢false}
+use mathlib.Core.List.{List, [], _∷_, _++_}
 use Prim.Native.Nat.{ℕ, zero, suc, _+_, _-_, _≤_, _<_}
 use native.Mathlib.Decide.{decLt}
 use native.Mathlib.Omega.{arith}
 use lib.ListN.{length, getD}
+use lib.Seq.{ext-getD}
 use Rattle.book.proofs.Tests.{and-both, both-and}
 use Rattle.line_theory.specs.Over.{allTo, sumTo, tabFrom, tab, lastTo}
 
@@ -121,6 +123,31 @@ pub getD-tab : {A : Type 0} (k : ℕ) (f : ℕ → A) (i : ℕ) (d : A) → i < 
 getD-tab k f i d m = let e : 0 + i ≡ i = omega arith in rw e at (getD-from 0 k f i d m)
 
 -- ---- the last at which it is true
+
+-- a list as long, with the values of a function
+pub tab-is : {A : Type 0} (d : A) (k : ℕ) (f : ℕ → A) (l : List A) → length l ≡ k → ((i : ℕ) → i < k → getD l i d ≡ f i) → l ≡ tab k f
+tab-is d k f l long same =
+    ext-getD d l (tab k f) (long ∙ sym (length-tab k f)) (λ i h. same i (omega (arith, long)) ∙ sym (getD-tab k f i d (omega (arith, long))))
+
+tab-last-from : {A : Type 0} (i k : ℕ) (f : ℕ → A) → tabFrom i (suc k) f ≡ tabFrom i k f ++ (f (i + k) ∷ [])
+unfolding tabFrom
+tab-last-from i zero f = let e : i + 0 ≡ i = omega arith in rw e
+tab-last-from {A} i (suc k) f =
+    let e : i + suc k ≡ suc i + k = omega arith in
+    rw e (ap (λ (l : List A). f i ∷ l) (tab-last-from (suc i) k f))
+
+-- the last value
+pub tab-last : {A : Type 0} (k : ℕ) (f : ℕ → A) → tab (suc k) f ≡ tab k f ++ (f k ∷ [])
+tab-last k f = let e : 0 + k ≡ k = omega arith in rw e at (tab-last-from 0 k f)
+
+tab-same-from : {A : Type 0} (i k : ℕ) (f g : ℕ → A) → ((j : ℕ) → j < i + k → f j ≡ g j) → tabFrom i k f ≡ tabFrom i k g
+unfolding tabFrom
+tab-same-from i zero f g h = refl
+tab-same-from i (suc k) f g h = rw (h i (omega arith), tab-same-from (suc i) k f g (λ j l. h j (omega arith)))
+
+-- as long, and the same values
+pub tab-same : {A : Type 0} (k m : ℕ) (f g : ℕ → A) → k ≡ m → ((i : ℕ) → i < k → f i ≡ g i) → tab k f ≡ tab m g
+tab-same k m f g e h = tab-same-from 0 k f g (λ i l. h i (omega arith)) ∙ ap (λ (k : ℕ). tab k g) e
 
 pub last-yes : (f : ℕ → Bool) (k : ℕ) → f (suc k) ≡ true → lastTo f (suc k) ≡ suc k
 unfolding lastTo

@@ -10,9 +10,8 @@ use lib.ListN.{length, getD, set, replicate, length-set}
 use lib.Seq.{getD-set-same, getD-set-other}
 use lib.Dec.{eqb}
 use Rattle.line_theory.specs.Over.{tab, tabFrom}
-use Rattle.line_theory.proofs.Over.{getD-tab}
+use Rattle.line_theory.proofs.Over.{getD-tab, tab-is}
 use Rattle.consistency.proofs.Fills.{fill-more}
-use Rattle.matrix.proofs.Rows.{tab-is}
 use Rattle.machine.specs.Flags.{flag}
 
 -- ---- filled

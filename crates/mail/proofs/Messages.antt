@@ -13,7 +13,7 @@ use Rattle.varint.specs.Sequence.{encodeAll}
 use Rattle.varint.proofs.Sequence.{encodeAll-append}
 use Rattle.consistency.specs.Known.{counters}
 use Rattle.consistency.proofs.Fills.{fill-more}
-use Rattle.matrix.proofs.Rows.{tab-is}
+use Rattle.line_theory.proofs.Over.{tab-is}
 use Rattle.message.specs.declared.Head.{Head}
 use Rattle.message.specs.declared.Message.{Message}
 use Rattle.message.specs.Layout.{pairsTo, pairCount, headNumbers, messageBytes}

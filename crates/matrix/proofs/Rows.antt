@@ -1,21 +1,16 @@
 -- Sixteen entries, and sixteen rows of them, as functions: a list filled place by place is the row or matrix of its function,
 -- and what stands in those.
-use mathlib.Core.Path.{_≡_, sym, ap, _∙_}
+use mathlib.Core.Path.{_≡_, ap, _∙_}
 use mathlib.Core.List.{List}
 use Prim.Native.Nat.{ℕ, _+_, _*_, _/_, _%_, _≤_, _<_}
 use native.Mathlib.Omega.{arith}
-use lib.ListN.{length, getD, set, length-set}
-use lib.Seq.{ext-getD}
+use lib.ListN.{length, set, length-set}
 use Rattle.book.specs.declared.Count.{Count}
 use Rattle.line_theory.specs.Over.{tab}
-use Rattle.line_theory.proofs.Over.{length-tab, getD-tab}
+use Rattle.line_theory.proofs.Over.{length-tab, getD-tab, tab-is}
 use Rattle.consistency.specs.Known.{counters}
 use Rattle.consistency.proofs.Fills.{fill-more}
 use Rattle.matrix.specs.Matrix.{asRow, asMatrix, entry}
-
-pub tab-is : {A : Type 0} (d : A) (k : ℕ) (f : ℕ → A) (l : List A) → length l ≡ k → ((i : ℕ) → i < k → getD l i d ≡ f i) → l ≡ tab k f
-tab-is d k f l long same =
-    ext-getD d l (tab k f) (long ∙ sym (length-tab k f)) (λ i h. same i (omega (arith, long)) ∙ sym (getD-tab k f i d (omega (arith, long))))
 
 -- ---- a list of entries, filled up to a place
 

@@ -1,21 +1,21 @@
 -- The whole book filled in: what an accepted book gives, and a table whose rows are followed by zeros.
-use mathlib.Core.Path.{_≡_, sym, ap, ap₂, _∙_}
-use mathlib.Core.List.{List, [], _∷_, _++_, append-nil}
-use Prim.Native.Nat.{ℕ, _+_, _*_, _-_, _≤_}
+use mathlib.Core.Path.{_≡_, sym, ap, _∙_}
+use mathlib.Core.List.{List, _∷_}
+use Prim.Native.Nat.{ℕ, _*_, _-_, _≤_}
 use native.Mathlib.Decide.{decLe}
 use native.Mathlib.Omega.{arith}
-use lib.ListN.{length, take, drop, replicate, length-append, length-replicate, drop-of-length-le}
-use lib.Seq.{sets, sets-eq}
+use lib.ListN.{length, take, drop, replicate}
+use lib.Seq.{sets}
 use lib.Dec.{eqb}
 use Rattle.varint.specs.declared.Numeral.the-variants.{Number, Refused}
 use Rattle.varint.specs.Number.{readNumber}
 use Rattle.varint.specs.Sequence.{Numbers}
 use Rattle.varint.proofs.Sequence.{numbers-more}
 use Rattle.book.specs.Bounds.{groups, largest, mark}
-use Rattle.book.specs.Tables.{padded, rowsFrom, sentTable, receivedTable}
+use Rattle.book.specs.Tables.{rowsFrom, sentTable, receivedTable}
 use Rattle.book.specs.Layout.{width, processesIn, bookIn}
 use Rattle.book.specs.Along.{processesQuestion, bookQuestion}
-use Rattle.book.proofs.Stores.{sets-append}
+use Rattle.book.proofs.Stores.{whole-table}
 use Rattle.book.specs.declared.Bounds.{Bounds}
 use Rattle.reader.specs.Parts.{bookNumbersFrom}
 use Rattle.reader.proofs.BookTurns.{book-short, book-none, book-many, book-goes-on}
@@ -29,22 +29,6 @@ pub record Begun (s : List ℕ) (n next : ℕ) : Type 0 where
   pub some : 1 ≤ n
   pub most : n ≤ 16
   pub processes : processesQuestion mark n n 0 (eqb (bookNumbersFrom s next .stop) (length s)) (bookNumbersFrom s next .found) ≡ 0
-
--- rows, then zeros to the end
-whole-table : (t₀ t₁ t₂ rows : List ℕ) (r : ℕ) → length t₀ ≡ 4096 → r ≤ 256 → length rows ≡ r * 16 → t₁ ≡ sets t₀ 0 rows
-    → t₂ ≡ sets t₁ (r * 16) (replicate (4096 - r * 16) 0) → t₂ ≡ padded 4096 rows
-whole-table t₀ t₁ t₂ rows r long few wide put clear =
-    let zeros : List ℕ = replicate (4096 - length rows) 0 in
-    let place : r * 16 ≡ 0 + length rows = omega (arith, wide) in
-    let all : length (rows ++ zeros) ≡ 4096 = length-append rows zeros ∙ omega (arith, length-replicate {A = ℕ} (4096 - length rows) 0) in
-    let none : drop (0 + length (rows ++ zeros)) t₀ ≡ [] = drop-of-length-le t₀ {i = 0 + length (rows ++ zeros)} (omega (arith, all)) in
-    clear
-    ∙ ap₂ (λ (l : List ℕ) (k : ℕ). sets l (r * 16) (replicate (4096 - k) 0)) put (sym wide)
-    ∙ ap (λ (k : ℕ). sets (sets t₀ 0 rows) k zeros) place
-    ∙ sets-append rows zeros t₀ 0
-    ∙ sets-eq (rows ++ zeros) t₀ 0 (omega (arith, all))
-    ∙ ap (λ (l : List ℕ). (rows ++ zeros) ++ l) none
-    ∙ append-nil (rows ++ zeros)
 
 module _ (s : List ℕ) (good : bookQuestion mark (eqb (bookNumbersFrom s 0 .stop) (length s)) (bookNumbersFrom s 0 .found) ≡ 0) where
   pub book-some : readNumber groups largest s 0 ≡ Refused → ⊥

@@ -9,9 +9,8 @@ use lib.Seq.{sets, length-take-le, take-take, append-snoc}
 use Rattle.varint.specs.Sequence.{Numbers, after}
 use Rattle.book.specs.Tables.{tableRow}
 use Rattle.book.proofs.Rows.{drop-take}
-use Rattle.book.proofs.Stores.{sets-append}
+use Rattle.book.proofs.Stores.{sets-append, sets-more}
 use Rattle.reader.proofs.CheckpointTurns.{after-after}
-use Rattle.reader.proofs.FillTurns.{sets-more}
 
 module _ (n j start : ℕ) (own : j < n) (most : n ≤ 16) (before middle : Numbers) (enough : n - 1 ≤ length (before .found))
     (passed : middle ≡ after (start + j - start) before) where

@@ -1,10 +1,10 @@
--- The turns of the loops that put numbers, and zeros, into a table.
+-- The turns of the loop that puts numbers into a table.
 use mathlib.Core.Path.{_≡_, refl, sym, ap, _∙_}
 use mathlib.Core.List.{List, [], _∷_, _++_}
 use Prim.Native.Nat.{ℕ, suc, _+_, _-_, _≤_, _<_}
 use native.Mathlib.Nat.{add-zero}
 use native.Mathlib.Omega.{arith}
-use lib.ListN.{length, take, set, replicate, length-append, length-replicate, replicate-append-replicate}
+use lib.ListN.{length, take, set, length-append}
 use lib.Seq.{sets, length-sets, take-at, append-snoc}
 use Rattle.varint.specs.declared.Numeral.{Numeral}
 use Rattle.varint.specs.declared.Numeral.the-variants.{Number, Refused}
@@ -13,13 +13,9 @@ use Rattle.varint.specs.Sequence.{Numbers, after}
 use Rattle.varint.proofs.Wider.{any-number, any-stands}
 use Rattle.varint.proofs.Sequence.{numbers-none, numbers-more}
 use Rattle.book.specs.Bounds.{groups, largest}
-use Rattle.book.proofs.Stores.{sets-append}
+use Rattle.book.proofs.Stores.{sets-more}
 use Rattle.reader.specs.Parts.{bookNumbersFrom}
 use Rattle.reader.proofs.CounterTurns.{prepend, drop-prepend}
-
--- one store more
-pub sets-more : (done l : List ℕ) (from i v : ℕ) → i ≡ from + length done → set (sets l from done) i v ≡ sets l from (done ++ (v ∷ []))
-sets-more done l from i v e = ap (λ (k : ℕ). set (sets l from done) k v) e ∙ sets-append done (v ∷ []) l from
 
 -- the numbers read so far stand in the table
 pub record Put (s : List ℕ) (at : ℕ) (table₀ : List ℕ) (from to : ℕ) (table : List ℕ) (next i : ℕ) : Type 0 where
@@ -86,32 +82,3 @@ module _ (s : List ℕ) (at : ℕ) (table₀ : List ℕ) (from to : ℕ) (table 
         inv .present
         ∙ ap (sets table₀ from)
         (sym (ap (λ (ns : Numbers). take (to - from) (ns .found)) (inv .found) ∙ take-at (inv .done) (bookNumbersFrom s next .found) (to - from) count))
-
--- the table has zeros from one entry up to another
-pub record Cleared (table₀ : List ℕ) (from to : ℕ) (table : List ℕ) (i : ℕ) : Type 0 where
-  pub begun : from ≤ i
-  pub within : i ≤ to
-  pub present : table ≡ sets table₀ from (replicate (i - from) 0)
-
-pub cleared-begun : (table : List ℕ) (from to : ℕ) → from ≤ to → Cleared table from to table from
-cleared-begun table from to h =
-    let none : from - from ≡ 0 = omega arith in
-    record { begun = omega arith; within = h; present = rw none }
-
-module _ (table₀ : List ℕ) (from to : ℕ) (table : List ℕ) (i : ℕ) (inv : Cleared table₀ from to table i) where
-  pub cleared-length : length table ≡ length table₀
-  cleared-length = ap length (inv .present) ∙ length-sets table₀ from (replicate (i - from) 0)
-
-  pub cleared-more : i < to → Cleared table₀ from to (set table i 0) (i + 1)
-  cleared-more h =
-      let more : i - from + 1 ≡ i + 1 - from = omega (arith, inv .begun) in
-      let there : i ≡ from + length {A = ℕ} (replicate (i - from) 0) = omega (arith, inv .begun, length-replicate {A = ℕ} (i - from) 0) in
-      record {
-        begun = omega (arith, inv .begun);
-        within = omega arith;
-        present = ap (λ (l : List ℕ). set l i 0) (inv .present) ∙ sets-more (replicate (i - from) 0) table₀ from i 0 there
-            ∙ ap (sets table₀ from) (replicate-append-replicate (i - from) 1 0 ∙ ap (λ (m : ℕ). replicate {A = ℕ} m 0) more);
-      }
-
-  pub cleared-ended : to ≤ i → table ≡ sets table₀ from (replicate (to - from) 0)
-  cleared-ended h = let all : to ≡ i = omega (arith, inv .within) in rw all (inv .present)

@@ -7,7 +7,7 @@ use book::Shape;
 use varint::Numeral;
 ghost use mathlib.Core.Path.{_≡_};
 ghost use Prim.Native.Nat.{_+_, _-_, _*_, _≤_, _<_};
-ghost use lib.ListN.{length, take, drop, replicate};
+ghost use lib.ListN.{length, take, drop};
 ghost use lib.Seq.{sets};
 ghost use Rattle.varint.specs.Sequence.{after};
 ghost use Rattle.book.specs.Layout.{width, checkpointsIn};
@@ -208,18 +208,6 @@ fn fill_counters(s: &[u8], at: usize, table: &mut [Counter], from: usize, to: us
     next
 }
 
-// Zeros from an entry up to another.
-fn clear(table: &mut [Counter], from: usize, to: usize)
-    requires { ⌜ (from ≤ to) × (to ≤ length (now table)) ⌝ }
-    ensures { λ _. ⌜ now (table .exit) ≡ sets (now (table .entry)) from (replicate (to - from) 0) ⌝ }
-{
-    let mut i = from;
-    while i < to {
-        table[i] = 0;
-        i += 1;
-    }
-}
-
 // One row of process j: its own column and those of absent processes are zero.
 fn fill_row(s: &[u8], at: usize, n: usize, j: usize, table: &mut [Counter], start: usize) -> usize
     requires { ⌜ (j < n) × ((n ≤ 16) × ((start + 16 ≤ length (now table)) × (n - 1 ≤ length (bookNumbersFrom (now s) at .found)))) ⌝ }
@@ -230,7 +218,7 @@ fn fill_row(s: &[u8], at: usize, n: usize, j: usize, table: &mut [Counter], star
     let middle = fill_counters(s, at, table, start, own);
     table[own] = 0;
     let next = fill_counters(s, middle, table, own + 1, start + n);
-    clear(table, start + n, start + book::ROW_WIDTH);
+    book::clear(table, start + n, start + book::ROW_WIDTH);
     next
 }
 
@@ -304,8 +292,8 @@ pub fn fill(bytes: &[u8], sent: &mut [Counter], received: &mut [Counter])
         return;
     };
     let rows = fill_processes(bytes, next, n as usize, sent, received);
-    clear(sent, rows * book::ROW_WIDTH, book::ENTRIES);
-    clear(received, rows * book::ROW_WIDTH, book::ENTRIES);
+    book::clear(sent, rows * book::ROW_WIDTH, book::ENTRIES);
+    book::clear(received, rows * book::ROW_WIDTH, book::ENTRIES);
 }
 
 // The pass that asks questions 1 to 9 and writes nothing: the first that fails, 0 for none, and the book's shape.

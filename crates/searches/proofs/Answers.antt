@@ -26,12 +26,13 @@ use Rattle.session_theory.proofs.Invariant.{Placed}
 use Rattle.session_theory.proofs.Facts.{initiator-some}
 use Rattle.demand3.proofs.Kept.{placed-in}
 use Rattle.searches.specs.Lowest.{searched}
+use Rattle.finder.proofs.Sixteen.{checkpoints-same}
 use Rattle.searches.specs.Search.{EndedThere, searchQuestion, setSearched, passedSearched, roundsSearched, messagesSearched}
 use Rattle.searches.specs.Parts.{Among}
 use Rattle.searches.proofs.Begin.{InSession, kept-in}
 use Rattle.searches.proofs.Ends.{endIn}
 use Rattle.searches.proofs.Theorems.{search-ends, searchIn, is-search, searched-ended, searched-stands}
-use Rattle.searches.proofs.Sets.{checkpoints-same, end-is-among, end-passed}
+use Rattle.searches.proofs.Sets.{end-is-among, end-passed}
 
 module _ (shape : Shape) (sent received : List ℕ) (initiator : Process) (purpose : ℕ) where
   abbrev question : ℕ

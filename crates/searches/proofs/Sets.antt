@@ -14,12 +14,12 @@ use Rattle.book.specs.View.{count}
 use Rattle.book.proofs.Sums.{sum-more, sum-take}
 use Rattle.line_theory.specs.Over.{sumTo}
 use Rattle.line_theory.specs.Sets.{passed}
-use Rattle.line_theory.proofs.Over.{sum-ext, getD-tab, length-tab}
+use Rattle.line_theory.proofs.Over.{sum-ext}
 use Rattle.line_theory.proofs.Accepted.{accepted-few}
 use Rattle.consistency.specs.Set.{chosen}
 use Rattle.consistency.proofs.Fills.{fill-more}
 use Rattle.finder.specs.Line.{checkpoints}
-use Rattle.finder.proofs.Sixteen.{checkpoints-are}
+use Rattle.finder.proofs.Sixteen.{checkpoints-are, chosen-there}
 use Rattle.matrix.specs.Matrix.{pick}
 use Rattle.participant.specs.declared.Participant.{Participant}
 use Rattle.participant.specs.Calls.{noParticipant}
@@ -30,22 +30,6 @@ use Rattle.session_theory.proofs.Facts.{few, book-is, line-is}
 use Rattle.searches.specs.Parts.{Among}
 use Rattle.searches.proofs.Begin.{restarts}
 use Rattle.searches.proofs.Ends.{endIn}
-
--- ---- sixteen checkpoints
-
-chosen-there : (c : ℕ → ℕ) (j : ℕ) → j < 16 → chosen (checkpoints c) j ≡ c j
-unfolding checkpoints
-chosen-there c j small =
-    let f : ℕ → Checkpoint = λ i. record { 0 = c i } in
-    ap (λ (r : Checkpoint). r .0) (getD-tab 16 f j (record { 0 = 0 }) small)
-
-checkpoints-long : (c : ℕ → ℕ) → length (checkpoints c) ≡ 16
-unfolding checkpoints
-checkpoints-long c = let f : ℕ → Checkpoint = λ i. record { 0 = c i } in length-tab 16 f
-
-pub checkpoints-same : (c d : ℕ → ℕ) → ((j : ℕ) → j < 16 → c j ≡ d j) → checkpoints c ≡ checkpoints d
-checkpoints-same c d same =
-    checkpoints-are (checkpoints c) d (checkpoints-long c) (λ j small. chosen-there c j small ∙ same j small)
 
 -- where everybody stands, from a session's parts
 abbrev pub standsBy : List Participant → Initiator → ℕ → ℕ → ℕ

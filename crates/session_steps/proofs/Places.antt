@@ -11,7 +11,7 @@ use Rattle.book.specs.declared.Shape.{Shape}
 use Rattle.book.specs.View.{count}
 use Rattle.line_theory.specs.Over.{tab}
 use Rattle.consistency.proofs.Fills.{fill-more}
-use Rattle.matrix.proofs.Rows.{tab-is}
+use Rattle.line_theory.proofs.Over.{tab-is}
 use Rattle.machine.specs.Named.{isParticipant}
 use Rattle.participant.specs.declared.Participant.{Participant}
 use Rattle.participant.specs.Step.{firstOf}

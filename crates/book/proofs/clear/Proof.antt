@@ -1,9 +1,9 @@
--- `reader::clear` meets its contract.
+-- `book::clear` meets its contract.
 use Prim.Native.Nat.{_-_}
 use native.Mathlib.Omega.{arith}
-use Rattle.reader.proofs.FillTurns.{Cleared, cleared-begun, cleared-length, cleared-more, cleared-ended}
-use Rattle.reader.proofs.clear.Statement.{statement}
-use Rattle.reader.proofs.clear.Tie as tie
+use Rattle.book.proofs.Stores.{Cleared, cleared-begun, cleared-length, cleared-more, cleared-ended}
+use Rattle.book.proofs.clear.Statement.{statement}
+use Rattle.book.proofs.clear.Tie as tie
 
 abbrev Inv-loop : tie.InvT-loop
 Inv-loop table₀ from to i₀ table i = Cleared table₀ from to table i
