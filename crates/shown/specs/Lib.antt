@@ -1,0 +1,3 @@
+pub mod Shown
+pub mod Rows
+pub mod Statements
