@@ -1,0 +1,4 @@
+pub mod Purposes
+pub mod Values
+pub mod Plans
+pub mod Orders

@@ -1,0 +1,43 @@
+-- The calls `restart_order` and `move_line`: the questions of the tables, then 11.
+use mathlib.Core.List.{List}
+use Prim.Native.Nat.{ℕ}
+use lib.ListN.{replicate}
+use Rattle.book.specs.declared.Shape.{Shape}
+use Rattle.book.specs.Bounds.{mostProcesses}
+use Rattle.book.specs.Layout.{Book}
+use Rattle.book.specs.Tables.{shapeOf, sentTable, receivedTable}
+use Rattle.book.specs.InTurn.{_then_, ask, unlessRefused}
+use Rattle.book.specs.Check.{tablesQuestion}
+use Rattle.line_theory.specs.OfTables.{viewOf}
+use Rattle.finder.specs.Line.{noLine}
+use Rattle.message.specs.Formed.{isPurpose}
+use Rattle.shown.specs.Shown.{bookShown}
+use Rattle.restart.specs.declared.Order.{Order}
+use Rattle.restart.specs.Plan.{planned, moved}
+use Rattle.restart.specs.Values.{orderOf}
+
+-- the order beside a refusal
+abbrev pub noOrder : Order
+noOrder = record { from = noLine; before = replicate mostProcesses 0; after = replicate mostProcesses 0 }
+
+module _ (shape : Shape) (sent received : List ℕ) (purpose : ℕ) where
+  unfoldable pub moveQuestion : ℕ
+  moveQuestion = tablesQuestion shape sent received then λ _. ask 11 (isPurpose purpose)
+
+  -- the restart order, with the move or without it
+  unfoldable pub orderGiven : Order
+  orderGiven = unlessRefused moveQuestion noOrder (orderOf (shape .n) (planned (viewOf shape sent received) purpose))
+
+  -- the moved book
+  unfoldable pub bookMoved : Book
+  bookMoved = bookShown (moved (viewOf shape sent received) purpose)
+
+  -- its shape, and what a move leaves in the two tables: every entry, also those that are unused afterwards
+  unfoldable pub shapeMoved : Shape
+  shapeMoved = unlessRefused moveQuestion shape (shapeOf bookMoved)
+
+  unfoldable pub sentMoved : List ℕ
+  sentMoved = unlessRefused moveQuestion sent (sentTable bookMoved)
+
+  unfoldable pub receivedMoved : List ℕ
+  receivedMoved = unlessRefused moveQuestion received (receivedTable bookMoved)

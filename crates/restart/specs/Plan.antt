@@ -1,0 +1,78 @@
+-- Document 01, "The move (K 5.4)", on the abstract view of a book: a plan, which says of each process what stays, what goes and what
+-- is taken off, and then its application. Processes and partners count from 0, checkpoints from 1, the oldest.
+use mathlib.Core.Bool.{Bool, _||_}
+use Prim.Native.Nat.{ℕ, _+_, _-_}
+use lib.Dec.{eqb}
+use Rattle.line_theory.specs.Sets.{View}
+use Rattle.line_theory.specs.Search.{line}
+use Rattle.matrix.specs.Matrix.{pick}
+
+-- "With purpose 1 or 3 the tables' line becomes the oldest" (K's Adv)
+abbrev pub advances : ℕ → Bool
+advances purpose = eqb purpose 1 || eqb purpose 3
+
+-- "With 2 or 3 only the then oldest is kept." (K's Rst)
+abbrev pub restarts : ℕ → Bool
+restarts purpose = eqb purpose 2 || eqb purpose 3
+
+-- a plan of a move
+pub record Planned : Type 0 where
+  -- process j's line checkpoint, which is its oldest afterwards
+  pub line : ℕ → ℕ
+  -- how many of its checkpoints go before that one, how many after it, and how many are kept
+  pub before : ℕ → ℕ
+  pub after : ℕ → ℕ
+  pub kept : ℕ → ℕ
+  -- what is taken off the counter of what it sent to partner p, and off that of what it received from p
+  pub offSent : ℕ → ℕ → ℕ
+  pub offReceived : ℕ → ℕ → ℕ
+
+module _ (v : View) (purpose : ℕ) where
+  -- "its own process's line checkpoint .. with 2 that is checkpoint 1"
+  abbrev pub lineCheckpoint : ℕ → ℕ
+  lineCheckpoint j = pick (advances purpose) (line v j) 1
+
+  -- "earlier checkpoints go": how many go before it
+  abbrev pub goBefore : ℕ → ℕ
+  goBefore j = lineCheckpoint j - 1
+
+  -- and how many after it ("with 1 none after")
+  abbrev pub goAfter : ℕ → ℕ
+  goAfter j = pick (restarts purpose) (v .count j - lineCheckpoint j) 0
+
+  -- "With 2 or 3 only the then oldest is kept"; with 1 all from the line checkpoint on
+  abbrev pub areKept : ℕ → ℕ
+  areKept j = pick (restarts purpose) 1 (v .count j - goBefore j)
+
+  -- "Each kept checkpoint's counters fall by those that its own process's line checkpoint held": the sender's counter, and the
+  -- receiver's
+  abbrev pub takenOffSent : ℕ → ℕ → ℕ
+  takenOffSent j p = v .S j (lineCheckpoint j) p
+
+  abbrev pub takenOffReceived : ℕ → ℕ → ℕ
+  takenOffReceived j p = v .R j (lineCheckpoint j) p
+
+  unfoldable pub planned : Planned
+  planned =
+      record {
+        line = lineCheckpoint;
+        before = goBefore;
+        after = goAfter;
+        kept = areKept;
+        offSent = takenOffSent;
+        offReceived = takenOffReceived;
+      }
+
+-- The book as a plan leaves it: what is then checkpoint r was checkpoint `before` + r.
+unfoldable pub applied : Planned → View → View
+applied plan v =
+    record {
+      n = v .n;
+      count = plan .kept;
+      S = λ j r p. v .S j (plan .before j + r) p - plan .offSent j p;
+      R = λ j r p. v .R j (plan .before j + r) p - plan .offReceived j p;
+    }
+
+-- the move
+abbrev pub moved : View → ℕ → View
+moved v purpose = applied (planned v purpose) v

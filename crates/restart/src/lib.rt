@@ -1,0 +1,27 @@
+// Document 01, "The move (K 5.4)": plans of moves and restart orders. Values and definitions; the calls are in the crates above.
+use book::Checkpoint;
+use book::Count;
+
+// A restart order: for each process the checkpoint restarted from, numbered as before the move, and how many go before and after
+// it. Absent processes have 0.
+pub struct Order {
+    pub from: [Checkpoint; 16],
+    pub before: [usize; 16],
+    pub after: [usize; 16],
+}
+
+// What a move takes off the counters of each process: a row of sixteen for each in either matrix.
+pub struct TakenOff {
+    pub sent: [Count; 256],
+    pub received: [Count; 256],
+}
+
+// A plan of a move: for each process its line checkpoint, which is its oldest afterwards, and how many of its checkpoints are kept;
+// what is taken off; and the restart order, whose checkpoints are the same. Once it is made, the move may write over the rows that it
+// was made from.
+pub struct Plan {
+    pub line: [Checkpoint; 16],
+    pub kept: [usize; 16],
+    pub off: TakenOff,
+    pub order: Order,
+}
