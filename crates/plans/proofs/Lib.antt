@@ -1,0 +1,4 @@
+pub mod Asked
+pub mod Filled
+pub mod Given
+pub mod Plans

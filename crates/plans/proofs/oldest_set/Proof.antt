@@ -1,0 +1,49 @@
+-- `oldest_set` meets its contract. The invariant: so many processes have checkpoint 1.
+use Prim.Native.Nat.{_-_}
+use native.Mathlib.Omega.{arith}
+use mathlib.Core.Path.{refl}
+use borrow.Author.Needs.{needs}
+use Rattle.plans.proofs.Filled.{FilledTo, filled-none, filled-more, filled-checkpoints, checkpoint}
+use Rattle.plans.proofs.oldest_set.Statement.{statement}
+use Rattle.plans.proofs.oldest_set.Tie as tie
+
+abbrev Inv-loop : tie.InvT-loop
+Inv-loop n set₀ j₀ set j = FilledTo 16 n (checkpoint 0) (λ _. checkpoint 1) set j
+
+abbrev μ-loop : tie.MeasureT-loop
+μ-loop n set₀ j₀ set j = n - j
+
+loop-holds : tie.Need-loop-holds Inv-loop μ-loop
+loop-holds c = filled-none 16 (c .args .n) (checkpoint 0) (λ _. checkpoint 1) (c .pre)
+
+mul-set : tie.Need-mul-set Inv-loop μ-loop
+mul-set c = omega arith
+
+array-set-from-set : tie.Need-array-set-from-set Inv-loop μ-loop
+array-set-from-set c = omega arith
+
+add-j : tie.Need-add-j Inv-loop μ-loop
+add-j c = omega arith
+
+loop-less : tie.Need-loop-less Inv-loop μ-loop
+loop-less c = search needs
+
+loop-again : tie.Need-loop-again Inv-loop μ-loop
+loop-again c = filled-more (checkpoint 1) (c .before .loop .inv) (c .loop-test .taken) refl
+
+returns : tie.Need-returns Inv-loop μ-loop
+returns c = filled-checkpoints (λ _. 1) (c .before .loop .inv) (c .loop-test .left)
+
+pub oldest-set-spec : {M : Type 1} → statement M
+oldest-set-spec =
+    tie.close
+    (tie.spec
+    Inv-loop
+    μ-loop
+    loop-holds
+    mul-set
+    array-set-from-set
+    add-j
+    loop-less
+    loop-again
+    returns)

@@ -1,0 +1,103 @@
+-- `order_to` meets its contract. The invariant: so many numbers are those that go before the line checkpoint, and after it.
+use mathlib.Core.Path.{refl}
+use Prim.Native.Nat.{_-_}
+use native.Mathlib.Omega.{arith}
+use borrow.Author.Needs.{needs}
+use lib.ListN.{getD}
+use Rattle.matrix.specs.Matrix.{pick}
+use Rattle.consistency.specs.Set.{chosen}
+use Rattle.restart.specs.Plan.{restarts}
+use Rattle.plans.proofs.Filled.{FilledTo, filled-none, filled-more, filled-numbers}
+use Rattle.plans.proofs.order_to.Statement.{statement}
+use Rattle.plans.proofs.order_to.Tie as tie
+
+abbrev Inv-loop : tie.InvT-loop
+Inv-loop purpose line n counts before₀ after₀ j₀ before after j =
+    FilledTo 16 n 0 (λ i. chosen line i - 1) before j
+    × FilledTo 16 n 0 (λ i. pick (restarts purpose) (getD counts i 0 - chosen line i) 0) after j
+
+abbrev μ-loop : tie.MeasureT-loop
+μ-loop purpose line n counts before₀ after₀ j₀ before after j = n - j
+
+loop-holds : tie.Need-loop-holds Inv-loop μ-loop
+loop-holds c =
+    let a = c .before .args in (
+      filled-none 16 (a .shape .n) 0 (λ i. chosen (a .t2) i - 1) (c .before .pre .0),
+      filled-none 16 (a .shape .n) 0 (λ i. pick (restarts (a .purpose)) (getD (a .shape .counts) i 0 - chosen (a .t2) i) 0) (c .before .pre .0),
+    )
+
+mul-r : tie.Need-mul-r Inv-loop μ-loop
+mul-r c = omega arith
+
+array-copy-out-r : tie.Need-array-copy-out-r Inv-loop μ-loop
+array-copy-out-r c = omega arith
+
+sub-before : tie.Need-sub-before Inv-loop μ-loop
+sub-before c =
+    let at-loop = c .before .before .before .loop in
+    c .before .before .before .before .before .pre .1 (at-loop .j) (c .before .before .loop-test .taken) .0
+
+mul-before : tie.Need-mul-before Inv-loop μ-loop
+mul-before c = omega arith
+
+array-write-before : tie.Need-array-write-before Inv-loop μ-loop
+array-write-before c = omega arith
+
+mul-go-after : tie.Need-mul-go-after Inv-loop μ-loop
+mul-go-after c = omega arith
+
+array-read-go-after : tie.Need-array-read-go-after Inv-loop μ-loop
+array-read-go-after c = omega arith
+
+go-after-requires : tie.Need-go-after-requires Inv-loop μ-loop
+go-after-requires c κs =
+    let at-loop = c .before .before .before .loop in
+    c .before .before .before .before .before .pre .1 (at-loop .j) (c .before .before .loop-test .taken) .1
+
+mul-after : tie.Need-mul-after Inv-loop μ-loop
+mul-after c = omega arith
+
+array-write-after : tie.Need-array-write-after Inv-loop μ-loop
+array-write-after c = omega arith
+
+add-j : tie.Need-add-j Inv-loop μ-loop
+add-j c = omega arith
+
+loop-less : tie.Need-loop-less Inv-loop μ-loop
+loop-less c = search needs
+
+loop-again : tie.Need-loop-again Inv-loop μ-loop
+loop-again c =
+    let at-loop = c .before .before .before .before .loop in
+    let line = c .before .before .before .before .before .before .args .t2 in
+    let more = c .before .before .before .loop-test .taken in (
+      filled-more (chosen line (at-loop .j) - 1) (at-loop .inv .0) more refl,
+      filled-more (c .go-after .result) (at-loop .inv .1) more (c .go-after .ensures),
+    )
+
+returns : tie.Need-returns Inv-loop μ-loop
+returns c =
+    let filled = c .before .loop .inv in
+    (refl, (filled-numbers (filled .0) (c .loop-test .left), filled-numbers (filled .1) (c .loop-test .left)))
+
+pub order-to-spec : {M : Type 1} → statement M
+order-to-spec =
+    tie.close
+    (tie.spec
+    Inv-loop
+    μ-loop
+    loop-holds
+    mul-r
+    array-copy-out-r
+    sub-before
+    mul-before
+    array-write-before
+    mul-go-after
+    array-read-go-after
+    go-after-requires
+    mul-after
+    array-write-after
+    add-j
+    loop-less
+    loop-again
+    returns)

@@ -1,0 +1,231 @@
+// Document 01, "The move (K 5.4)": what a move will do, as a plan by value, and the restart order. Nothing is changed here.
+use book::Answer;
+use book::Checkpoint;
+use book::Count;
+use book::Counter;
+use book::Process;
+use book::Shape;
+use book::TableRows;
+use restart::Order;
+use restart::Plan;
+use restart::TakenOff;
+ghost use mathlib.Core.Path.{_≡_};
+ghost use Prim.Native.Nat.{_-_, _≤_};
+ghost use lib.ListN.{length};
+ghost use Rattle.book.specs.View.{count, counterAt};
+ghost use Rattle.book.specs.InTurn.{answerTo};
+ghost use Rattle.book.specs.Fits.{Placed};
+ghost use Rattle.line_theory.specs.OfTables.{viewOf};
+ghost use Rattle.matrix.specs.Matrix.{pick};
+ghost use Rattle.consistency.specs.Set.{chosen};
+ghost use Rattle.consistency.specs.Given.{AllNamed};
+ghost use Rattle.finder.specs.Line.{checkpoints};
+ghost use Rattle.restart.specs.Plan.{advances, restarts, lineCheckpoint, planned};
+ghost use Rattle.restart.specs.Values.{present, numbers, takenOff, planOf};
+ghost use Rattle.restart.specs.Calls.{noOrder, moveQuestion, orderGiven};
+ghost use Rattle.plans.specs.Parts.{AcceptedRows};
+
+// The answer of `restart_order`; beside a refusal all numbers are zero.
+pub struct OrderAnswer {
+    pub answer: Answer,
+    pub order: Order,
+}
+
+// With purpose 1 or 3 the line becomes the oldest.
+fn advances(purpose: u64) -> bool
+    ensures { λ r. ⌜ r ≡ advances purpose ⌝ }
+{
+    purpose == 1 || purpose == 3
+}
+
+// With purpose 2 or 3 only the then oldest is kept.
+fn restarts(purpose: u64) -> bool
+    ensures { λ r. ⌜ r ≡ restarts purpose ⌝ }
+{
+    purpose == 2 || purpose == 3
+}
+
+// The order beside a refusal.
+pub fn no_order() -> Order
+    ensures { λ r. ⌜ r ≡ noOrder ⌝ }
+{
+    Order {
+        from: [Checkpoint(0); 16],
+        before: [0; 16],
+        after: [0; 16],
+    }
+}
+
+// Checkpoint 1 of every process.
+fn oldest_set(n: usize) -> [Checkpoint; 16]
+    requires { ⌜ n ≤ 16 ⌝ }
+    ensures { λ set. ⌜ set ≡ checkpoints (present n (λ _. 1)) ⌝ }
+{
+    let mut set = [Checkpoint(0); 16];
+    let mut j = 0;
+    while j < n {
+        set[j] = Checkpoint(1);
+        j += 1;
+    }
+    set
+}
+
+// The line checkpoint of every process.
+fn line_checkpoints(
+    rows: TableRows,
+    sent: &[Counter],
+    received: &[Counter],
+    purpose: u64,
+) -> [Checkpoint; 16]
+    requires { ⌜ AcceptedRows rows (now sent) (now received) ⌝ }
+    ensures { λ set. ⌜ set ≡ checkpoints (present (rows .shape .n) (lineCheckpoint (viewOf (rows .shape) (now (sent .entry)) (now (received .entry))) purpose)) ⌝ }
+{
+    let shape = rows.shape;
+    if !advances(purpose) {
+        return oldest_set(shape.n);
+    }
+    let newest = finder::newest_set(shape);
+    let found = finder::find_from(rows, sent, received, newest);
+    found.set
+}
+
+// How many checkpoints go after the line checkpoint, of so many.
+fn go_after(purpose: u64, count: usize, line: Checkpoint) -> usize
+    requires { ⌜ line .0 ≤ count ⌝ }
+    ensures { λ r. ⌜ r ≡ pick (restarts purpose) (count - line .0) 0 ⌝ }
+{
+    if restarts(purpose) { count - line.0 } else { 0 }
+}
+
+// How many are kept.
+fn are_kept(purpose: u64, count: usize, line: Checkpoint) -> usize
+    requires { ⌜ (1 ≤ line .0) × (line .0 ≤ count) ⌝ }
+    ensures { λ r. ⌜ r ≡ pick (restarts purpose) 1 (count - (line .0 - 1)) ⌝ }
+{
+    if restarts(purpose) {
+        1
+    } else {
+        count - (line.0 - 1)
+    }
+}
+
+// The restart order to a line.
+fn order_to(shape: Shape, line: [Checkpoint; 16], purpose: u64) -> Order
+    requires { ⌜ (shape .n ≤ 16) × AllNamed shape line ⌝ }
+    ensures { λ r. ⌜ r .from ≡ line ⌝ }
+    ensures { λ r. ⌜ r .before ≡ numbers (shape .n) (λ j. chosen line j - 1) ⌝ }
+    ensures { λ r. ⌜ r .after ≡ numbers (shape .n) (λ j. pick (restarts purpose) (count shape j - chosen line j) 0) ⌝ }
+{
+    let n = shape.n;
+    let counts = shape.counts;
+    let mut before = [0usize; 16];
+    let mut after = [0usize; 16];
+    let mut j = 0;
+    while j < n {
+        let r = line[j];
+        before[j] = r.0 - 1;
+        after[j] = go_after(purpose, counts[j], r);
+        j += 1;
+    }
+    Order {
+        from: line,
+        before,
+        after,
+    }
+}
+
+// How many checkpoints of each process are kept.
+fn kept_from(shape: Shape, line: [Checkpoint; 16], purpose: u64) -> [usize; 16]
+    requires { ⌜ (shape .n ≤ 16) × AllNamed shape line ⌝ }
+    ensures { λ r. ⌜ r ≡ numbers (shape .n) (λ j. pick (restarts purpose) 1 (count shape j - (chosen line j - 1))) ⌝ }
+{
+    let n = shape.n;
+    let counts = shape.counts;
+    let mut kept = [0usize; 16];
+    let mut j = 0;
+    while j < n {
+        kept[j] = are_kept(purpose, counts[j], line[j]);
+        j += 1;
+    }
+    kept
+}
+
+// What the line checkpoints hold in a table, one row for each process.
+fn held_by(rows: TableRows, table: &[Counter], line: [Checkpoint; 16]) -> [Count; 256]
+    requires { ⌜ Placed rows × (length (now table) ≡ 4096) ⌝ }
+    requires { ⌜ (rows .shape .n ≤ 16) × AllNamed (rows .shape) line ⌝ }
+    ensures { λ r. ⌜ r ≡ takenOff (rows .shape .n) (λ j p. counterAt (rows .shape .counts) (now (table .entry)) j (chosen line j) p) ⌝ }
+{
+    let shape = rows.shape;
+    let n = shape.n;
+    let mut held = [Count(0); 256];
+    let mut i = 0;
+    while i < n * book::ROW_WIDTH {
+        let j = i / book::ROW_WIDTH;
+        let p = i % book::ROW_WIDTH;
+        held[i] = book::counter(rows, table, Process(j + 1), line[j], Process(p + 1));
+        i += 1;
+    }
+    held
+}
+
+// The first question of a move that fails: of the tables, then 11; 0 for none.
+pub fn question(shape: Shape, sent: &[Counter], received: &[Counter], purpose: u64) -> u32
+    ensures { λ r. ⌜ r ≡ moveQuestion shape (now (sent .entry)) (now (received .entry)) purpose ⌝ }
+{
+    let question = tables::question(shape, sent, received);
+    if question != 0 {
+        return question;
+    }
+    if !message::is_purpose(purpose) {
+        return 11;
+    }
+    0
+}
+
+// The plan of a move. Inner: asks for the rows of accepted tables.
+pub fn plan_move(rows: TableRows, sent: &[Counter], received: &[Counter], purpose: u64) -> Plan
+    requires { ⌜ AcceptedRows rows (now sent) (now received) ⌝ }
+    ensures { λ r. ⌜ r ≡ planOf (rows .shape .n) (planned (viewOf (rows .shape) (now (sent .entry)) (now (received .entry))) purpose) ⌝ }
+{
+    let shape = rows.shape;
+    let line = line_checkpoints(rows, sent, received, purpose);
+    let kept = kept_from(shape, line, purpose);
+    let off = TakenOff {
+        sent: held_by(rows, sent, line),
+        received: held_by(rows, received, line),
+    };
+    let order = order_to(shape, line, purpose);
+    Plan {
+        line,
+        kept,
+        off,
+        order,
+    }
+}
+
+// The restart order of the tables, which stay as they are. The tables' questions come first, then 11.
+pub fn restart_order(
+    shape: Shape,
+    sent: &[Counter],
+    received: &[Counter],
+    purpose: u64,
+) -> OrderAnswer
+    ensures { λ r. ⌜ r .answer ≡ answerTo (moveQuestion shape (now (sent .entry)) (now (received .entry)) purpose) ⌝ }
+    ensures { λ r. ⌜ r .order ≡ orderGiven shape (now (sent .entry)) (now (received .entry)) purpose ⌝ }
+{
+    let question = question(shape, sent, received, purpose);
+    if question != 0 {
+        return OrderAnswer {
+            answer: Answer::Refused(question),
+            order: no_order(),
+        };
+    }
+    let rows = book::rows_of(shape);
+    let plan = plan_move(rows, sent, received, purpose);
+    let order = plan.order;
+    OrderAnswer {
+        answer: Answer::Accepted,
+        order,
+    }
+}
