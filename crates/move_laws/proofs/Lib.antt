@@ -1,0 +1,4 @@
+pub mod Views
+pub mod Lines
+pub mod Tables
+pub mod Theorems
