@@ -4,9 +4,12 @@ use mathlib.Core.Path.{refl}
 use mathlib.Core.List.{[], _∷_}
 use native.Mathlib.Omega.{arith}
 use Rattle.book.specs.Read.{shapeRead, sentRead, receivedRead}
-use Rattle.session_examples.specs.Books.{lent, setOf, k1}
+use Rattle.shown.specs.Shown as shown
+use Rattle.restart.specs.Plan as plan
+use Rattle.restart.specs.Calls as calls
+use Rattle.session_examples.specs.Books.{lent, setOf, k1, k6}
 use Rattle.session_examples.proofs.Computing.{computing}
-use Rattle.examples.specs.Starred.{Starred, NotConsistent, holds, _also_, none}
+use Rattle.examples.specs.Starred.{Starred, NotConsistent, MovedTo, holds, _also_, none}
 use Rattle.examples.proofs.Pairs.{noOther, only-answer}
 use Rattle.session_examples.proofs.Sessions.{alone, two, k1-by-1, k1-by-2, k6-by-2}
 
@@ -16,6 +19,10 @@ not-consistent = (
   (refl, record { first = (omega arith, omega arith); second = (omega arith, omega arith); fault = refl }),
   only-answer (shapeRead k1 lent lent) (sentRead k1 lent lent) (receivedRead k1 lent lent) (setOf (2 ∷ 2 ∷ 2 ∷ [])) 0 1 refl refl refl,
 )
+
+k6-moved : holds (MovedTo k6 1 (3 ∷ 4 ∷ 1 ∷ []))
+unfolding computing shown.bookShown plan.planned plan.applied calls.moveQuestion calls.bookMoved calls.shapeMoved
+k6-moved = refl
 
 pub starred-hold : Starred
 unfolding computing
@@ -39,6 +46,7 @@ starred-hold =
     also refl
     also refl
     also k6-by-2
+    also k6-moved
     also refl
     also refl
     also refl

@@ -1,4 +1,4 @@
--- Document 01, "Books and sessions tried": the starred examples, in one list, and what each of them claims of the
+-- Document 01, "Books and sessions tried": all starred examples, in one list, and what each of them claims of the
 -- definitions that the contracts cite.
 use mathlib.Core.Path.{_≡_}
 use mathlib.Core.List.{List, [], _∷_}
@@ -20,6 +20,7 @@ use Rattle.consistency.specs.declared.SetAnswer.{SetAnswer}
 use Rattle.consistency.specs.declared.SetAnswer.the-variants as test
 use Rattle.consistency.specs.Set.{Tested}
 use Rattle.finder.specs.Line.{lineFound, passedFound}
+use Rattle.restart.specs.Calls.{moveQuestion, shapeMoved}
 use Rattle.session_examples.specs.Books.{lent, setOf, k1, k6, laterCounter, largestCounter}
 use Rattle.session_examples.specs.Outcome.{searchedIn, ended}
 
@@ -44,6 +45,8 @@ pub data Example : Type 0 where
   HasLine : List ℕ → List ℕ → ℕ → Example
   -- in a book, a search by this initiator ends with all workers on this line, after so many rounds and messages
   Searched : List ℕ → ℕ → List ℕ → ℕ → ℕ → Example
+  -- a book moved with this purpose has these counts
+  MovedTo : List ℕ → ℕ → List ℕ → Example
 
 -- what a read of a book answers, with the shape beside it
 abbrev pub answered : List ℕ → Answer × Shape
@@ -61,6 +64,14 @@ found book =
     let received : List ℕ = receivedRead book lent lent in
     (answerTo (tablesQuestion shape sent received), lineFound shape sent received, passedFound shape sent received)
 
+-- what a move answers in the tables of a book, with the counts beside it
+abbrev pub movedIn : List ℕ → ℕ → Answer × List ℕ
+movedIn book purpose =
+    let shape : Shape = shapeRead book lent lent in
+    let sent : List ℕ = sentRead book lent lent in
+    let received : List ℕ = receivedRead book lent lent in
+    (answerTo (moveQuestion shape sent received purpose), shapeMoved shape sent received purpose .counts)
+
 abbrev pub holds : Example → Type 0
 holds (HasBytes n bytes) = encode n ≡ bytes
 holds (IsNumber bytes n) = readNumber groups largest bytes 0 ≡ numeral.Number n (length bytes)
@@ -75,6 +86,7 @@ holds (NotConsistent book set j p) =
 holds (HasLine book line passed) = found book ≡ (answer.Accepted, setOf line, passed)
 holds (Searched book initiator line rounds messages) =
     searchedIn book initiator ≡ ended line rounds messages
+holds (MovedTo book purpose counts) = movedIn book purpose ≡ (answer.Accepted, padded mostProcesses counts)
 
 -- all of a list hold
 infixr 5 _also_
@@ -105,6 +117,7 @@ starred =
     ∷ AcceptedAs k6 3 (4 ∷ 4 ∷ 2 ∷ [])
     ∷ HasLine k6 (2 ∷ 1 ∷ 2 ∷ []) 5
     ∷ Searched k6 2 (2 ∷ 1 ∷ 2 ∷ []) 3 12
+    ∷ MovedTo k6 1 (3 ∷ 4 ∷ 1 ∷ [])
     ∷ HasBytes 127 (0x7F ∷ [])
     ∷ IsNumber (0x7F ∷ []) 127
     ∷ HasBytes 128 (0x80 ∷ 0x01 ∷ [])
