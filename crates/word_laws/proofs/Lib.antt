@@ -1,0 +1,9 @@
+pub mod Lying
+pub mod Below
+pub mod Counters
+pub mod Plain
+pub mod Participants
+pub mod Initiators
+pub mod Sessions
+pub mod Refusals
+pub mod Theorems
