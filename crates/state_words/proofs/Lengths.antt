@@ -1,0 +1,28 @@
+-- How many words a state takes.
+use mathlib.Core.Path.{_≡_, refl}
+use mathlib.Core.List.{List}
+use Prim.Native.Nat.{ℕ, zero, suc, _*_}
+use native.Mathlib.Omega.{arith}
+use lib.ListN.{length, getD, length-append}
+use Rattle.line_theory.proofs.Over.{length-tab}
+use Rattle.participant.specs.declared.Participant.{Participant}
+use Rattle.participant.specs.Calls.{noParticipant}
+use Rattle.initiator.specs.declared.Initiator.{Initiator}
+use Rattle.words.specs.Participant.{participantWords}
+use Rattle.words.specs.Initiator.{initiatorWords}
+use Rattle.words.specs.Session.{placeWords}
+
+pub length-participant : (state : Participant) → length (participantWords state) ≡ 38
+unfolding participantWords
+length-participant state = simp (length-append, length-tab)
+
+pub length-initiator : (state : Initiator) → length (initiatorWords state) ≡ 534
+unfolding initiatorWords
+length-initiator state = simp (length-append, length-tab)
+
+pub length-places : (participants : List Participant) (k : ℕ) → length (placeWords participants k) ≡ k * 38
+unfolding placeWords
+length-places participants zero = refl
+length-places participants (suc k) =
+    let p : Participant = getD participants k noParticipant in
+    simp length-append (omega (arith, length-places participants k, length-participant p))
