@@ -1,0 +1,134 @@
+-- What the calls on books answer and leave, by what the code finds out.
+use mathlib.Core.Path.{_≡_, refl, sym, ap, _∙_}
+use mathlib.Core.List.{List}
+use Prim.Native.Nat.{ℕ, zero, suc}
+use native.Mathlib.Omega.{arith}
+use lib.ListN.{length}
+use Rattle.book.specs.declared.Answer.{Answer}
+use Rattle.book.specs.declared.Shape.{Shape}
+use Rattle.book.specs.declared.WriteAnswer.{WriteAnswer}
+use Rattle.book.specs.declared.WriteAnswer.the-variants.{Length, Refused}
+use Rattle.book.specs.InTurn.{answerTo}
+use Rattle.book.specs.Check.{tablesQuestion}
+use Rattle.book.specs.Read.{readQuestion, shapeRead, sentRead, receivedRead}
+use Rattle.book.specs.Write as inner
+use Rattle.book.specs.Write.{bytesOf, writeQuestion, bytesWritten, lengthOr}
+use Rattle.words.specs.Plain.{numberOf, shapeIn, shapeWords}
+use Rattle.recovery_line.specs.Books.{shapeQuestion, readAnswer, readShape, readSent, readReceived, checkAnswer, writeAnswer, writeOut, writeLength}
+use Rattle.recovery_line.proofs.Shells.{wrong, asked, question-is, kept, put, through}
+
+-- ---- read
+
+module _ (bytes shape sent received : List ℕ) {q : ℕ} (same : q ≡ shapeQuestion shape) where
+  -- the answer, and what is left in each slice
+  abbrev Read : ℕ → List ℕ → List ℕ → List ℕ → Type 0
+  Read r shape′ sent′ received′ =
+      (r ≡ readAnswer bytes shape sent received)
+      × ((shape′ ≡ readShape bytes shape sent received)
+      × ((sent′ ≡ readSent bytes shape sent received) × (received′ ≡ readReceived bytes shape sent received)))
+
+  pub read-wrong : (q ≡ 0 → ⊥) → Read q shape sent received
+  unfolding readAnswer readShape readSent readReceived
+  read-wrong some =
+      let e = wrong same (λ _. readQuestion bytes sent received) some in
+      (e, (kept e shape _ some, (kept e sent _ some, kept e received _ some)))
+
+  module _ (none : q ≡ 0) {answer : Answer} {r : ℕ} (number : r ≡ numberOf answer) (answers : answer ≡ answerTo (readQuestion bytes sent received))
+      {sent′ received′ : List ℕ} (left : sent′ ≡ sentRead bytes sent received) (left′ : received′ ≡ receivedRead bytes sent received)
+    where
+      of-read : r ≡ readQuestion bytes sent received
+      of-read = question-is (readQuestion bytes sent received) number answers
+
+      read-answered : r ≡ readAnswer bytes shape sent received
+      unfolding readAnswer
+      read-answered = asked same (λ _. readQuestion bytes sent received) none of-read
+
+      tables : (sent′ ≡ readSent bytes shape sent received) × (received′ ≡ readReceived bytes shape sent received)
+      unfolding readSent readReceived sentRead receivedRead
+      tables = (
+        through (readAnswer bytes shape sent received) (readQuestion bytes sent received) sent _ read-answered of-read left,
+        through (readAnswer bytes shape sent received) (readQuestion bytes sent received) received _ read-answered of-read left′,
+      )
+
+      pub read-refused : (r ≡ 0 → ⊥) → Read r shape sent′ received′
+      unfolding readShape
+      read-refused some = (read-answered, (kept read-answered shape _ some, tables))
+
+      pub read-taken : r ≡ 0 → {taken : Shape} → taken ≡ shapeRead bytes sent received → {shape′ : List ℕ} → shape′ ≡ shapeWords taken
+          → Read 0 shape′ sent′ received′
+      unfolding readShape
+      read-taken zeroed e put-there =
+          (sym zeroed ∙ read-answered, (put read-answered shape _ zeroed (put-there ∙ ap shapeWords e), tables))
+
+-- ---- check
+
+module _ (shape sent received : List ℕ) {q : ℕ} (same : q ≡ shapeQuestion shape) where
+  pub check-wrong : (q ≡ 0 → ⊥) → q ≡ checkAnswer shape sent received
+  unfolding checkAnswer
+  check-wrong some = wrong same (λ _. tablesQuestion (shapeIn shape) sent received) some
+
+  pub check-asked : q ≡ 0 → {given : Shape} → given ≡ shapeIn shape → {r : ℕ} → r ≡ tablesQuestion given sent received
+      → r ≡ checkAnswer shape sent received
+  unfolding checkAnswer
+  check-asked none given-is e =
+      asked same (λ _. tablesQuestion (shapeIn shape) sent received) none
+      (e ∙ (λ t. tablesQuestion (given-is t) sent received))
+
+-- ---- write
+
+-- what the answer of the call inside says
+length-given : (q long : ℕ) {bytes : ℕ} → lengthOr q long ≡ Length bytes → (q ≡ 0) × (bytes ≡ long)
+length-given zero long e = (refl, cc)
+length-given (suc q) long e = let z : _≡_ {A = ℕ} 0 1 = cc in absurd (omega arith)
+
+refusal-given : (q long : ℕ) {r : ℕ} → lengthOr q long ≡ Refused r → (r ≡ q) × (r ≡ 0 → ⊥)
+refusal-given zero long e = let z : _≡_ {A = ℕ} 0 1 = cc in absurd (omega arith)
+refusal-given (suc q) long {r} e = let f : r ≡ suc q = cc in (f, λ none. absurd (omega arith))
+
+module _ (shape sent received out : List ℕ) (before : ℕ) {q : ℕ} (same : q ≡ shapeQuestion shape) where
+  abbrev inside : ℕ
+  inside = writeQuestion (shapeIn shape) sent received out
+
+  abbrev long : ℕ
+  long = length (bytesOf (shapeIn shape) sent received)
+
+  abbrev Written : ℕ → List ℕ → ℕ → Type 0
+  Written r out′ length′ =
+      (r ≡ writeAnswer shape sent received out)
+      × ((out′ ≡ writeOut shape sent received out) × (length′ ≡ writeLength shape sent received out before))
+
+  pub write-wrong : (q ≡ 0 → ⊥) → Written q out before
+  unfolding writeAnswer writeOut writeLength
+  write-wrong some =
+      let e = wrong same (λ _. inside) some in
+      (e, (kept e out _ some, kept e before _ some))
+
+  module _ (none : q ≡ 0) {given : Shape} (given-is : given ≡ shapeIn shape) {answer : WriteAnswer}
+      (answers : answer ≡ inner.writeAnswer given sent received out) {out′ : List ℕ} (left : out′ ≡ bytesWritten given sent received out)
+    where
+      answer-is : answer ≡ lengthOr inside long
+      unfolding inner.writeAnswer
+      answer-is = answers ∙ (λ t. inner.writeAnswer (given-is t) sent received out)
+
+      write-answered : {r : ℕ} → r ≡ inside → r ≡ writeAnswer shape sent received out
+      unfolding writeAnswer
+      write-answered e = asked same (λ _. inside) none e
+
+      buffer : {r : ℕ} → r ≡ inside → out′ ≡ writeOut shape sent received out
+      unfolding writeOut bytesWritten
+      buffer e =
+          through (writeAnswer shape sent received out) inside out _ (write-answered e) e
+          (left ∙ (λ t. bytesWritten (given-is t) sent received out))
+
+      pub write-refused : {r : ℕ} → answer ≡ Refused r → Written r out′ before
+      unfolding writeLength
+      write-refused refusal =
+          let (e, some) = refusal-given inside long (sym answer-is ∙ refusal) in
+          (write-answered e, (buffer e, kept (write-answered e) before _ some))
+
+      pub write-done : {bytes : ℕ} → answer ≡ Length bytes → {length′ : ℕ} → length′ ≡ bytes → Written 0 out′ length′
+      unfolding writeLength
+      write-done counted put-there =
+          let (none-fails, is-long) = length-given inside long (sym answer-is ∙ counted) in
+          let e : 0 ≡ inside = sym none-fails in
+          (write-answered e, (buffer e, put (write-answered e) before _ refl (put-there ∙ is-long)))

@@ -1,0 +1,88 @@
+-- What the call `search` answers and leaves, by what the code finds out.
+use mathlib.Core.Path.{_≡_, sym, ap, _∙_}
+use mathlib.Core.Bool.{_&&_}
+use mathlib.Core.List.{List}
+use Prim.Native.Nat.{ℕ}
+use lib.Seq.{sets}
+use Rattle.book.specs.declared.Answer.{Answer}
+use Rattle.book.specs.declared.Shape.{Shape}
+use Rattle.book.specs.declared.Checkpoint.{Checkpoint}
+use Rattle.book.specs.InTurn.{ask, answerTo}
+use Rattle.searches.specs.Search.{searchQuestion, setSearched, passedSearched, roundsSearched, messagesSearched}
+use Rattle.words.specs.Words.{shapeLength, setLength, wrongLength, isLong}
+use Rattle.words.specs.Plain.{numberOf, shapeIn, setWords}
+use Rattle.recovery_line.specs.Machines.{named}
+use Rattle.recovery_line.specs.Sessions.{searchAnswer, searchLine, searchPassed, searchRounds, searchMessages}
+use Rattle.recovery_line.proofs.Shells.{two-long, wrong, asked, question-is, kept, put, set-put}
+
+module _ (shape sent received : List ℕ) (initiator purpose : ℕ) (line : List ℕ) (passed rounds messages : ℕ) {q : ℕ}
+    (same : q ≡ ask wrongLength (isLong shapeLength shape && isLong setLength line))
+  where
+    abbrev inside : ℕ
+    inside = searchQuestion (shapeIn shape) sent received (named initiator) purpose
+
+    abbrev answer-put : ℕ
+    answer-put = searchAnswer shape sent received initiator purpose line
+
+    -- the answer, and what is left in the slice and in each number
+    abbrev Searched : ℕ → List ℕ → ℕ → ℕ → ℕ → Type 0
+    Searched r line′ passed′ rounds′ messages′ =
+        (r ≡ answer-put)
+        × ((line′ ≡ searchLine shape sent received initiator purpose line)
+        × ((passed′ ≡ searchPassed shape sent received initiator purpose line passed)
+        × ((rounds′ ≡ searchRounds shape sent received initiator purpose line rounds)
+        × (messages′ ≡ searchMessages shape sent received initiator purpose line messages))))
+
+    untouched : {r : ℕ} → r ≡ answer-put → (r ≡ 0 → ⊥) → Searched r line passed rounds messages
+    unfolding searchLine searchPassed searchRounds searchMessages
+    untouched e some =
+        (e, (kept e line _ some, (kept e passed _ some, (kept e rounds _ some, kept e messages _ some))))
+
+    pub search-wrong : (q ≡ 0 → ⊥) → Searched q line passed rounds messages
+    unfolding searchAnswer
+    search-wrong some = untouched (wrong same (λ _. inside) some) some
+
+    module _ (none : q ≡ 0) {given : Shape} (given-is : given ≡ shapeIn shape) {i : ℕ} (i-is : i ≡ initiator) {answer : Answer} {r : ℕ}
+        (number : r ≡ numberOf answer) (answers : answer ≡ answerTo (searchQuestion given sent received (named i) purpose))
+      where
+        answered : r ≡ answer-put
+        unfolding searchAnswer
+        answered =
+            let to : answer ≡ answerTo inside = answers ∙ (λ t. answerTo (searchQuestion (given-is t) sent received (named (i-is t)) purpose)) in
+            asked same (λ _. inside) none (question-is inside number to)
+
+        pub search-refused : (r ≡ 0 → ⊥) → Searched r line passed rounds messages
+        search-refused some = untouched answered some
+
+        module _ (zeroed : r ≡ 0) {found : List Checkpoint} (stand : found ≡ setSearched given sent received (named i) purpose) {line′ : List ℕ}
+            (left : line′ ≡ sets line 0 (setWords found))
+          where
+            line-left : line′ ≡ searchLine shape sent received initiator purpose line
+            unfolding searchLine
+            line-left =
+                let place = set-put line (two-long shapeLength setLength shape line same none .1) found left in
+                let there = stand ∙ (λ t. setSearched (given-is t) sent received (named (i-is t)) purpose) in
+                put answered line _ zeroed (place ∙ ap setWords there)
+
+            pub search-ended : {newer waits turns : ℕ} → newer ≡ passedSearched given sent received (named i) purpose
+                → waits ≡ roundsSearched given sent received (named i) purpose
+                → turns ≡ messagesSearched given sent received (named i) purpose
+                → {passed′ rounds′ messages′ : ℕ} → passed′ ≡ newer → rounds′ ≡ waits → messages′ ≡ turns
+                → Searched 0 line′ passed′ rounds′ messages′
+            unfolding searchPassed searchRounds searchMessages
+            search-ended e f g e′ f′ g′ = (
+              sym zeroed ∙ answered,
+              (
+                line-left,
+                (
+                  put answered passed _ zeroed
+                      (e′ ∙ e ∙ (λ t. passedSearched (given-is t) sent received (named (i-is t)) purpose)),
+                  (
+                    put answered rounds _ zeroed
+                        (f′ ∙ f ∙ (λ t. roundsSearched (given-is t) sent received (named (i-is t)) purpose)),
+                    put answered messages _ zeroed
+                        (g′ ∙ g ∙ (λ t. messagesSearched (given-is t) sent received (named (i-is t)) purpose)),
+                  ),
+                ),
+              ),
+            )

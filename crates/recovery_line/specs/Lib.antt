@@ -1,0 +1,5 @@
+pub mod Books
+pub mod Lines
+pub mod Machines
+pub mod Sessions
+pub mod Moves

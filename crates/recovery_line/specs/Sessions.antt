@@ -1,0 +1,71 @@
+-- The exported calls on sessions: start, turn, search.
+use mathlib.Core.Bool.{_&&_}
+use mathlib.Core.List.{List}
+use Prim.Native.Nat.{ℕ}
+use Rattle.book.specs.InTurn.{_then_, ask, unlessRefused}
+use Rattle.session.specs.Calls.{startQuestion, sessionStarted, strandsStarted, turnQuestion, sessionAfter, strandsAfter}
+use Rattle.searches.specs.Search.{searchQuestion, setSearched, passedSearched, roundsSearched, messagesSearched}
+use Rattle.words.specs.Words.{shapeLength, setLength, sessionLength, wrongLength, isLong}
+use Rattle.words.specs.Plain.{shapeIn, setWords}
+use Rattle.words.specs.Session.{sessionWords, sessionIn}
+use Rattle.recovery_line.specs.Machines.{named}
+
+-- ---- start
+
+module _ (shape sent received : List ℕ) (initiator purpose : ℕ) (session strands : List ℕ) where
+  unfoldable pub startAnswer : ℕ
+  startAnswer =
+      ask wrongLength (isLong shapeLength shape && isLong sessionLength session)
+      then λ _. startQuestion (shapeIn shape) sent received (named initiator) purpose strands
+
+  unfoldable pub startSession : List ℕ
+  startSession =
+      unlessRefused startAnswer session
+      (sessionWords (sessionStarted (shapeIn shape) sent received (named initiator) purpose strands))
+
+  unfoldable pub startStrands : List ℕ
+  startStrands =
+      unlessRefused startAnswer strands
+      (strandsStarted (shapeIn shape) sent received (named initiator) purpose strands)
+
+-- ---- turn
+
+module _ (session shape sent received : List ℕ) (p : ℕ) (strands : List ℕ) where
+  unfoldable pub turnAnswer : ℕ
+  turnAnswer =
+      ask wrongLength (isLong shapeLength shape && isLong sessionLength session)
+      then λ _. turnQuestion (shapeIn shape) sent received (sessionIn session) (named p) strands
+
+  unfoldable pub turnSession : List ℕ
+  turnSession =
+      unlessRefused turnAnswer session
+      (sessionWords (sessionAfter (shapeIn shape) sent received (sessionIn session) (named p) strands))
+
+  unfoldable pub turnStrands : List ℕ
+  turnStrands =
+      unlessRefused turnAnswer strands
+      (strandsAfter (shapeIn shape) sent received (sessionIn session) (named p) strands)
+
+-- ---- search
+
+module _ (shape sent received : List ℕ) (initiator purpose : ℕ) (line : List ℕ) where
+  unfoldable pub searchAnswer : ℕ
+  searchAnswer =
+      ask wrongLength (isLong shapeLength shape && isLong setLength line)
+      then λ _. searchQuestion (shapeIn shape) sent received (named initiator) purpose
+
+  unfoldable pub searchLine : List ℕ
+  searchLine =
+      unlessRefused searchAnswer line (setWords (setSearched (shapeIn shape) sent received (named initiator) purpose))
+
+  unfoldable pub searchPassed : ℕ → ℕ
+  searchPassed before =
+      unlessRefused searchAnswer before (passedSearched (shapeIn shape) sent received (named initiator) purpose)
+
+  unfoldable pub searchRounds : ℕ → ℕ
+  searchRounds before =
+      unlessRefused searchAnswer before (roundsSearched (shapeIn shape) sent received (named initiator) purpose)
+
+  unfoldable pub searchMessages : ℕ → ℕ
+  searchMessages before =
+      unlessRefused searchAnswer before (messagesSearched (shapeIn shape) sent received (named initiator) purpose)

@@ -1,0 +1,83 @@
+// Sets and the line: test a set, find the line.
+use consistency::SetAnswer;
+ghost use mathlib.Core.Path.{_≡_};
+ghost use mathlib.Core.List.{[], _∷_};
+ghost use lib.ListN.{length};
+ghost use Rattle.recovery_line.specs.Lines.{testAnswer, PairShown, findAnswer, findLine, findPassed};
+
+// A pair of processes, to a slice of its length.
+fn put_pair(j: usize, p: usize, pair: &mut [u64])
+    requires { ⌜ length (now pair) ≡ 2 ⌝ }
+    ensures { λ _. ⌜ now (pair .exit) ≡ (j ∷ (p ∷ [])) ⌝ }
+{
+    pair[0] = words::of_number(j);
+    pair[1] = words::of_number(p);
+}
+
+// Is a set consistent? A pair at fault, or zeros.
+#[no_mangle]
+pub extern "C" fn recovery_line_test_set(
+    shape: &[u64],
+    sent: &[u32],
+    received: &[u32],
+    set: &[u64],
+    pair: &mut [u64],
+) -> u32
+    ensures { λ r. ⌜ r ≡ testAnswer (now (shape .entry)) (now (sent .entry)) (now (received .entry)) (now (set .entry)) (now (pair .entry)) ⌝ }
+    ensures { λ _. ⌜ PairShown (now (shape .entry)) (now (sent .entry)) (now (received .entry)) (now (set .entry)) (now (pair .entry)) (now (pair .exit)) ⌝ }
+{
+    let question = crate::three_question(
+        shape.len(),
+        set.len(),
+        words::SET_WORDS,
+        pair.len(),
+        words::PAIR_WORDS,
+    );
+    if question != 0 {
+        return question;
+    }
+    let given = words::shape_in(shape);
+    let chosen = words::set_in(set);
+    let answer = consistency::test_set(given, sent, received, chosen);
+    match answer {
+        SetAnswer::Consistent => {
+            put_pair(0, 0, pair);
+            0
+        }
+        SetAnswer::AtFault(j, p) => {
+            put_pair(j.0, p.0, pair);
+            0
+        }
+        SetAnswer::Refused(question) => question,
+    }
+}
+
+// The line, and T.
+#[no_mangle]
+pub extern "C" fn recovery_line_find(
+    shape: &[u64],
+    sent: &[u32],
+    received: &[u32],
+    line: &mut [u64],
+    passed: &mut u64,
+) -> u32
+    ensures { λ r. ⌜ r ≡ findAnswer (now (shape .entry)) (now (sent .entry)) (now (received .entry)) (now (line .entry)) ⌝ }
+    ensures { λ _. ⌜ now (line .exit) ≡ findLine (now (shape .entry)) (now (sent .entry)) (now (received .entry)) (now (line .entry)) ⌝ }
+    ensures { λ _. ⌜ now (passed .exit) ≡ findPassed (now (shape .entry)) (now (sent .entry)) (now (received .entry)) (now (line .entry)) (now (passed .entry)) ⌝ }
+{
+    let question = crate::two_question(shape.len(), line.len(), words::SET_WORDS);
+    if question != 0 {
+        return question;
+    }
+    let given = words::shape_in(shape);
+    let found = finder::find_line(given, sent, received);
+    let answer = found.answer;
+    let question = words::number_of(answer);
+    if question != 0 {
+        return question;
+    }
+    let set = found.line;
+    words::put_set(set, line, 0);
+    *passed = words::of_number(found.passed);
+    0
+}

@@ -1,0 +1,107 @@
+// Sessions: start, turn, search.
+use book::Process;
+ghost use mathlib.Core.Path.{_≡_};
+ghost use Rattle.recovery_line.specs.Sessions.{startAnswer, startSession, startStrands, turnAnswer, turnSession, turnStrands, searchAnswer, searchLine, searchPassed, searchRounds, searchMessages};
+
+// A session begins.
+#[no_mangle]
+pub extern "C" fn recovery_line_session_start(
+    shape: &[u64],
+    sent: &[u32],
+    received: &[u32],
+    initiator: u64,
+    purpose: u64,
+    session: &mut [u64],
+    strands: &mut [u8],
+) -> u32
+    ensures { λ r. ⌜ r ≡ startAnswer (now (shape .entry)) (now (sent .entry)) (now (received .entry)) initiator purpose (now (session .entry)) (now (strands .entry)) ⌝ }
+    ensures { λ _. ⌜ now (session .exit) ≡ startSession (now (shape .entry)) (now (sent .entry)) (now (received .entry)) initiator purpose (now (session .entry)) (now (strands .entry)) ⌝ }
+    ensures { λ _. ⌜ now (strands .exit) ≡ startStrands (now (shape .entry)) (now (sent .entry)) (now (received .entry)) initiator purpose (now (session .entry)) (now (strands .entry)) ⌝ }
+{
+    let question = crate::two_question(shape.len(), session.len(), words::SESSION_WORDS);
+    if question != 0 {
+        return question;
+    }
+    let given = words::shape_in(shape);
+    let process = Process(words::number(initiator));
+    let begun = turns::start(given, sent, received, process, purpose, strands);
+    let answer = begun.answer;
+    let question = words::number_of(answer);
+    if question != 0 {
+        return question;
+    }
+    let next = begun.session;
+    state_words::put_session(next, session);
+    0
+}
+
+// A turn on process p's strand.
+#[no_mangle]
+pub extern "C" fn recovery_line_session_turn(
+    session: &mut [u64],
+    shape: &[u64],
+    sent: &[u32],
+    received: &[u32],
+    p: u64,
+    strands: &mut [u8],
+) -> u32
+    ensures { λ r. ⌜ r ≡ turnAnswer (now (session .entry)) (now (shape .entry)) (now (sent .entry)) (now (received .entry)) p (now (strands .entry)) ⌝ }
+    ensures { λ _. ⌜ now (session .exit) ≡ turnSession (now (session .entry)) (now (shape .entry)) (now (sent .entry)) (now (received .entry)) p (now (strands .entry)) ⌝ }
+    ensures { λ _. ⌜ now (strands .exit) ≡ turnStrands (now (session .entry)) (now (shape .entry)) (now (sent .entry)) (now (received .entry)) p (now (strands .entry)) ⌝ }
+{
+    let question = crate::two_question(shape.len(), session.len(), words::SESSION_WORDS);
+    if question != 0 {
+        return question;
+    }
+    let given = words::shape_in(shape);
+    let process = Process(words::number(p));
+    let held = state_words::session_in(session);
+    let after = turns::turn(held, given, sent, received, process, strands);
+    let answer = after.answer;
+    let question = words::number_of(answer);
+    if question != 0 {
+        return question;
+    }
+    let next = after.session;
+    state_words::put_session(next, session);
+    0
+}
+
+// A search from its start to its end.
+#[no_mangle]
+pub extern "C" fn recovery_line_search(
+    shape: &[u64],
+    sent: &[u32],
+    received: &[u32],
+    initiator: u64,
+    purpose: u64,
+    line: &mut [u64],
+    passed: &mut u64,
+    rounds: &mut u64,
+    messages: &mut u64,
+) -> u32
+    ensures { λ r. ⌜ r ≡ searchAnswer (now (shape .entry)) (now (sent .entry)) (now (received .entry)) initiator purpose (now (line .entry)) ⌝ }
+    ensures { λ _. ⌜ now (line .exit) ≡ searchLine (now (shape .entry)) (now (sent .entry)) (now (received .entry)) initiator purpose (now (line .entry)) ⌝ }
+    ensures { λ _. ⌜ now (passed .exit) ≡ searchPassed (now (shape .entry)) (now (sent .entry)) (now (received .entry)) initiator purpose (now (line .entry)) (now (passed .entry)) ⌝ }
+    ensures { λ _. ⌜ now (rounds .exit) ≡ searchRounds (now (shape .entry)) (now (sent .entry)) (now (received .entry)) initiator purpose (now (line .entry)) (now (rounds .entry)) ⌝ }
+    ensures { λ _. ⌜ now (messages .exit) ≡ searchMessages (now (shape .entry)) (now (sent .entry)) (now (received .entry)) initiator purpose (now (line .entry)) (now (messages .entry)) ⌝ }
+{
+    let question = crate::two_question(shape.len(), line.len(), words::SET_WORDS);
+    if question != 0 {
+        return question;
+    }
+    let given = words::shape_in(shape);
+    let process = Process(words::number(initiator));
+    let found = searches::search(given, sent, received, process, purpose);
+    let answer = found.answer;
+    let question = words::number_of(answer);
+    if question != 0 {
+        return question;
+    }
+    let set = found.set;
+    words::put_set(set, line, 0);
+    *passed = words::of_number(found.passed);
+    *rounds = book::wide(found.rounds);
+    *messages = book::wide(found.messages);
+    0
+}

@@ -1,0 +1,206 @@
+/*
+ * The recovery line of up to sixteen worker processes: the library's functions for C and C++.
+ *
+ * Link with librecovery_line.a (`rt staticlib recovery_line` writes it to target/staticlib). Question numbers are those
+ * of the specification; README.md has the list.
+ *
+ * Every function
+ *   - returns 0 if it accepts, and else the number of the first question that fails;
+ *   - changes nothing that was lent when it refuses: no table, state, buffer or number;
+ *   - ends on every input, allocates nothing, keeps nothing between calls, and calls nothing outside but C's memcpy, memmove,
+ *     memset and memcmp.
+ *
+ * What C must keep to, since nothing can check it:
+ *   - A slice is a pointer and the number of its elements. The pointer may be null only if that number is 0. It is aligned
+ *     for its element, and points to as many elements, all of which are initialised, also those that are only written.
+ *   - What a function writes to (a pointer without `const`) overlaps nothing else that is lent to the same call. What it
+ *     only reads may overlap.
+ *   - A pointer to a single number (`length`, `passed`, `rounds`, `messages`) is never null.
+ *   - While a call runs, nobody else writes what is lent to it or reads what it writes. Calls on different memory may run at
+ *     the same time, in any threads, and from signal handlers.
+ *   - A call needs at most RECOVERY_LINE_STACK_BYTES of stack, also on the stack of a signal handler; what each was measured
+ *     to need, rounded up, stands with it.
+ *
+ * Words. Shapes, sets, states, sessions, lengths and orders cross as 64-bit words in slices of a fixed, named length. A slice
+ * of words of any other length is refused by RECOVERY_LINE_WRONG_LENGTH, before every question. Tables have another rule:
+ * question 2 asks their lengths.
+ *   shape        n, then sixteen counts of checkpoints; 0 for absent processes.
+ *   set, line    sixteen checkpoint numbers; 0 for absent processes.
+ *   lengths      how many bytes were written for each of sixteen processes; 0 for none.
+ *   order        sixteen checkpoints restarted from, sixteen numbers of those that go before, sixteen of those after.
+ *   participant  n, process, initiator, purpose, stage (0 before the invitation, 1 searching, 2 ended), candidate; then
+ *                sixteen counters of the row that it last reported, and sixteen of its column.
+ *   initiator    n, process, purpose, ended (0 or 1), candidate, rounds; then sixteen flags of who is awaited (0 or 1); the
+ *                matrix, sixteen rows of sixteen counters, a row for each sender; and its copy, likewise.
+ *   session      n, initiator, purpose; the initiator's words; a participant's words for each of sixteen processes (all zero
+ *                for absent ones, and at the initiator's place); how many bytes wait on each of sixteen strands; the count
+ *                of messages delivered.
+ * The names in a state (process, initiator, purpose) meet questions 10 and 11. A state that does not decode otherwise (a
+ * stage above 2, a flag above 1, a counter or a count of rounds or deliveries of 2^32 or more) fails question 13, as one does
+ * that does not fit the tables.
+ *
+ * Tables. `sent` and `received` have RECOVERY_LINE_TABLE_ENTRIES counters each: a row of sixteen for each checkpoint,
+ * processes in order, oldest checkpoint first; column p is partner p. What is unused is zero.
+ */
+#ifndef RECOVERY_LINE_H
+#define RECOVERY_LINE_H
+
+#include <stddef.h>
+#include <stdint.h>
+
+#ifdef __cplusplus
+extern "C" {
+#endif
+
+/* The version of this interface: it changes when a declaration, a layout or the meaning of a call does. */
+#define RECOVERY_LINE_VERSION 1
+
+/* Bounds. */
+#define RECOVERY_LINE_PROCESSES 16
+#define RECOVERY_LINE_CHECKPOINTS 256
+#define RECOVERY_LINE_BOOK_BYTES 65536
+#define RECOVERY_LINE_TABLE_ENTRIES 4096
+
+/* Slices of words. */
+#define RECOVERY_LINE_SHAPE_WORDS 17
+#define RECOVERY_LINE_SET_WORDS 16
+#define RECOVERY_LINE_PAIR_WORDS 2
+#define RECOVERY_LINE_LENGTHS_WORDS 16
+#define RECOVERY_LINE_ORDER_WORDS 48
+#define RECOVERY_LINE_PARTICIPANT_WORDS 38
+#define RECOVERY_LINE_INITIATOR_WORDS 534
+#define RECOVERY_LINE_SESSION_WORDS 1162
+
+/* For n from 1 to 16: the longest message among n processes, and the bytes that always suffice for the messages of one step
+ * of the initiator, and for a session's strands. */
+#define RECOVERY_LINE_MESSAGE_BYTES(n) (4 + ((n) - 1) * 6)
+#define RECOVERY_LINE_STRAND_BYTES(n) (((n) - 1) * RECOVERY_LINE_MESSAGE_BYTES(n))
+
+/* The stack that suffices for every call: a quarter more than the most that was measured. */
+#define RECOVERY_LINE_STACK_BYTES 81920
+
+/* A counter that is not known. */
+#define RECOVERY_LINE_NOT_KNOWN 4294967295u
+
+/* Purposes. */
+#define RECOVERY_LINE_ADVANCE 1
+#define RECOVERY_LINE_RESTART 2
+#define RECOVERY_LINE_ADVANCE_AND_RESTART 3
+
+/* The answer of a call that accepts, and of one that is lent a slice of words of the wrong length. */
+#define RECOVERY_LINE_ACCEPTED 0
+#define RECOVERY_LINE_WRONG_LENGTH 100
+
+/* Reads a checkpoint book: its counters into the two tables, every entry of both, and its shape.
+ * Questions: 1 to 9.
+ * Stack: 1024 bytes. */
+uint32_t recovery_line_read(const uint8_t *bytes, size_t bytes_len, uint64_t *shape, size_t shape_len, uint32_t *sent,
+                            size_t sent_len, uint32_t *received, size_t received_len);
+
+/* Checks lent tables, and changes nothing.
+ * Questions of tables, which every call below puts first: 2, 4, all of 5, then 6 to 8 in book order, then 9.
+ * Stack: 1024 bytes. */
+uint32_t recovery_line_check(const uint64_t *shape, size_t shape_len, const uint32_t *sent, size_t sent_len,
+                             const uint32_t *received, size_t received_len);
+
+/* Writes the book of the tables to the start of `out`, and its length; the bytes after it stay. RECOVERY_LINE_BOOK_BYTES
+ * bytes always suffice.
+ * Questions: the tables', 17.
+ * Stack: 1024 bytes. */
+uint32_t recovery_line_write(const uint64_t *shape, size_t shape_len, const uint32_t *sent, size_t sent_len,
+                             const uint32_t *received, size_t received_len, uint8_t *out, size_t out_len,
+                             uint64_t *length);
+
+/* Tests a set: `pair` becomes 0 0 if it is consistent, and else a pair (j, p) at fault: j's checkpoint received more from p
+ * than p's sent to j. Which, where there are several, is not promised.
+ * Questions: the tables', 12.
+ * Stack: 2048 bytes. */
+uint32_t recovery_line_test_set(const uint64_t *shape, size_t shape_len, const uint32_t *sent, size_t sent_len,
+                                const uint32_t *received, size_t received_len, const uint64_t *set, size_t set_len,
+                                uint64_t *pair, size_t pair_len);
+
+/* Finds the line, and how many checkpoints are newer than the line's.
+ * Questions: the tables'.
+ * Stack: 2048 bytes. */
+uint32_t recovery_line_find(const uint64_t *shape, size_t shape_len, const uint32_t *sent, size_t sent_len,
+                            const uint32_t *received, size_t received_len, uint64_t *line, size_t line_len,
+                            uint64_t *passed);
+
+/* Makes a participant's first state, before its invitation. Only the rows of process `me` matter beyond the check.
+ * Questions: the tables', 10, 11.
+ * Stack: 1024 bytes. */
+uint32_t recovery_line_participant_first(const uint64_t *shape, size_t shape_len, const uint32_t *sent, size_t sent_len,
+                                         const uint32_t *received, size_t received_len, uint64_t me,
+                                         uint64_t initiator, uint64_t purpose, uint64_t *state, size_t state_len);
+
+/* A participant receives a message: its state after the step, its report at the start of `out`, and the length for each
+ * process; what ends it is not answered, and all lengths are 0 then. RECOVERY_LINE_MESSAGE_BYTES(n) bytes always suffice.
+ * Questions: the tables', 10, 11, 13, 14, 15, 16, 17.
+ * Stack: 6144 bytes. */
+uint32_t recovery_line_participant_receive(uint64_t *state, size_t state_len, const uint64_t *shape, size_t shape_len,
+                                           const uint32_t *sent, size_t sent_len, const uint32_t *received,
+                                           size_t received_len, const uint8_t *message, size_t message_len,
+                                           uint8_t *out, size_t out_len, uint64_t *lengths, size_t lengths_len);
+
+/* Process `me` begins a search, or with purpose 2 a bare restart: its first state, and the invitations at the start of
+ * `out`, one after another, rising by receiver, with the length for each process. RECOVERY_LINE_STRAND_BYTES(n) bytes always
+ * suffice.
+ * Questions: the tables', 10, 11, 17.
+ * Stack: 13312 bytes. */
+uint32_t recovery_line_initiator_begin(const uint64_t *shape, size_t shape_len, const uint32_t *sent, size_t sent_len,
+                                       const uint32_t *received, size_t received_len, uint64_t me, uint64_t purpose,
+                                       uint64_t *state, size_t state_len, uint8_t *out, size_t out_len,
+                                       uint64_t *lengths, size_t lengths_len);
+
+/* An initiator receives a report: its state after the step, and what it sends (nothing, polls or terminations) as
+ * `recovery_line_initiator_begin` writes invitations.
+ * Questions: the tables', 10, 11, 13, 14, 15, 16, 17.
+ * Stack: 26624 bytes. */
+uint32_t recovery_line_initiator_receive(uint64_t *state, size_t state_len, const uint64_t *shape, size_t shape_len,
+                                         const uint32_t *sent, size_t sent_len, const uint32_t *received,
+                                         size_t received_len, const uint8_t *message, size_t message_len, uint8_t *out,
+                                         size_t out_len, uint64_t *lengths, size_t lengths_len);
+
+/* Starts a session: all machines of one search in one place. Each invitation waits at the start of its strand's slot in
+ * `strands`: RECOVERY_LINE_MESSAGE_BYTES(n) bytes for each participant, in rising order; every other byte stays.
+ * RECOVERY_LINE_STRAND_BYTES(n) bytes always suffice.
+ * Questions: the tables', 10, 11, 17.
+ * Stack: 39936 bytes. */
+uint32_t recovery_line_session_start(const uint64_t *shape, size_t shape_len, const uint32_t *sent, size_t sent_len,
+                                     const uint32_t *received, size_t received_len, uint64_t initiator,
+                                     uint64_t purpose, uint64_t *session, size_t session_len, uint8_t *strands,
+                                     size_t strands_len);
+
+/* A turn: the message that waits on process p's strand is delivered, and the replies wait then.
+ * Questions: the tables', 10, 11, 13, 17, 18.
+ * Stack: 58368 bytes. */
+uint32_t recovery_line_session_turn(uint64_t *session, size_t session_len, const uint64_t *shape, size_t shape_len,
+                                    const uint32_t *sent, size_t sent_len, const uint32_t *received,
+                                    size_t received_len, uint64_t p, uint8_t *strands, size_t strands_len);
+
+/* A search from its start to its end, lowest waiting strand first: where everybody has ended (the line; with purpose 2
+ * checkpoint 1), how many checkpoints are newer, and the rounds and messages that it took.
+ * Questions: the tables', 10, 11.
+ * Stack: 63488 bytes. */
+uint32_t recovery_line_search(const uint64_t *shape, size_t shape_len, const uint32_t *sent, size_t sent_len,
+                              const uint32_t *received, size_t received_len, uint64_t initiator, uint64_t purpose,
+                              uint64_t *line, size_t line_len, uint64_t *passed, uint64_t *rounds, uint64_t *messages);
+
+/* Moves the line in the tables, every entry of both, with their shape, and gives the restart order.
+ * Questions: the tables', 11.
+ * Stack: 14336 bytes. */
+uint32_t recovery_line_move(uint64_t *shape, size_t shape_len, uint32_t *sent, size_t sent_len, uint32_t *received,
+                            size_t received_len, uint64_t purpose, uint64_t *order, size_t order_len);
+
+/* Gives the restart order that `recovery_line_move` would give, and moves nothing.
+ * Questions: the tables', 11.
+ * Stack: 14336 bytes. */
+uint32_t recovery_line_restart_order(const uint64_t *shape, size_t shape_len, const uint32_t *sent, size_t sent_len,
+                                     const uint32_t *received, size_t received_len, uint64_t purpose, uint64_t *order,
+                                     size_t order_len);
+
+#ifdef __cplusplus
+}
+#endif
+
+#endif
