@@ -1,0 +1,267 @@
+//! Operations to be measured, on the library through its C interface, and on the independent implementation through the
+//! structs that a Rust program would use. Both get the same input and keep their buffers from call to call.
+
+use crate::book::Book;
+use crate::call::Call;
+use crate::claims::waiting;
+use crate::layout::{session, strand_bytes, BOOK_BYTES, ORDER_WORDS, PAIR_WORDS, SET_WORDS};
+use crate::lent::{Guarded, Lent};
+use crate::line::line;
+use crate::ours;
+use crate::scenarios::lent_tables;
+use reference::{Session, Shape};
+use std::hint::black_box;
+
+/// What is measured.
+#[derive(Clone, Copy, PartialEq, Eq, Debug)]
+pub enum Operation {
+    Read,
+    Check,
+    Write,
+    TestSet,
+    Find,
+    /// One turn that delivers the first poll or report after some others.
+    Turn,
+    /// A start and turns until nothing waits, lowest strand first.
+    Session,
+    Search,
+    Move,
+}
+
+/// What the independent implementation works on.
+struct Native {
+    shape: Shape,
+    sent: Vec<u32>,
+    received: Vec<u32>,
+    bytes: Vec<u8>,
+    out: Vec<u8>,
+    set: [u64; SET_WORDS],
+    session: Option<Session>,
+}
+
+/// One operation, ready to be run on either side.
+pub struct Bench {
+    operation: Operation,
+    lent: Lent,
+    native: Native,
+    /// What the next turn names, and what is put back before it.
+    turn: u64,
+    kept: Lent,
+    kept_session: Option<Session>,
+}
+
+/// All measured searches are begun by process 1 with this purpose.
+const PURPOSE: u64 = 3;
+
+impl Bench {
+    /// An operation on a book; a turn is the one after so many others.
+    pub fn new(operation: Operation, book: &Book, turns_before: usize) -> Self {
+        let lent = lent_for(operation, book);
+        let native = Native {
+            shape: Shape {
+                n: book.shape[0],
+                counts: book.shape[1..].try_into().expect("sixteen counts"),
+            },
+            sent: book.sent.clone(),
+            received: book.received.clone(),
+            bytes: book.bytes(),
+            out: vec![0; lent.out.lent().len()],
+            set: set_words(book),
+            session: None,
+        };
+        let mut bench = Bench {
+            operation,
+            kept: lent.clone(),
+            lent,
+            native,
+            turn: 0,
+            kept_session: None,
+        };
+        if operation == Operation::Turn {
+            bench.prepare_turn(turns_before);
+        }
+        bench
+    }
+
+    /// Takes both sides to the same place of a search.
+    fn prepare_turn(&mut self, turns_before: usize) {
+        self.start_ours();
+        self.start_theirs();
+        for _ in 0..turns_before {
+            let p = self.next_strand().expect("a search takes more turns");
+            self.turn_ours(p);
+            self.turn_theirs(p);
+        }
+        self.turn = self.next_strand().expect("a message waits");
+        self.kept = self.lent.clone();
+        self.kept_session = self.native.session.clone();
+        self.native.out.copy_from_slice(self.lent.out.lent());
+    }
+
+    /// The lowest waiting strand of the library's session.
+    fn next_strand(&self) -> Option<u64> {
+        waiting(self.lent.state.lent()).first().map(|&p| p as u64)
+    }
+
+    /// Puts back what the operation changes and the next run needs as it was; not measured.
+    pub fn restore(&mut self) {
+        match self.operation {
+            Operation::Turn => {
+                self.lent.state.lent_mut().copy_from_slice(self.kept.state.lent());
+                self.lent.out.lent_mut().copy_from_slice(self.kept.out.lent());
+                self.native.session.clone_from(&self.kept_session);
+                self.native.out.copy_from_slice(self.kept.out.lent());
+            }
+            Operation::Move => {
+                self.lent.shape.lent_mut().copy_from_slice(self.kept.shape.lent());
+                self.lent.sent.lent_mut().copy_from_slice(self.kept.sent.lent());
+                self.lent.received.lent_mut().copy_from_slice(self.kept.received.lent());
+                self.native.shape.counts.copy_from_slice(&self.kept.shape.lent()[1..]);
+                self.native.sent.copy_from_slice(self.kept.sent.lent());
+                self.native.received.copy_from_slice(self.kept.received.lent());
+            }
+            _ => {}
+        }
+    }
+
+    /// Runs the operation on the library.
+    pub fn run_ours(&mut self) {
+        let call = match self.operation {
+            Operation::Read => Call::Read,
+            Operation::Check => Call::Check,
+            Operation::Write => Call::Write,
+            Operation::TestSet => Call::TestSet,
+            Operation::Find => Call::Find,
+            Operation::Search => Call::Search,
+            Operation::Move => Call::Move,
+            Operation::Turn => return self.turn_ours(self.turn),
+            Operation::Session => {
+                self.start_ours();
+                while let Some(p) = self.next_strand() {
+                    self.turn_ours(p);
+                }
+                return;
+            }
+        };
+        self.accept(call);
+    }
+
+    fn accept(&mut self, call: Call) {
+        let answer = black_box(ours::run(call, black_box(&mut self.lent)));
+        assert_eq!(answer, 0, "a measured call is accepted");
+    }
+
+    fn start_ours(&mut self) {
+        self.lent.names = [1, PURPOSE, 0];
+        self.accept(Call::SessionStart);
+    }
+
+    fn turn_ours(&mut self, p: u64) {
+        self.lent.names = [p, 0, 0];
+        self.accept(Call::SessionTurn);
+    }
+
+    /// Runs the operation on the independent implementation.
+    pub fn run_theirs(&mut self) {
+        let Native {
+            shape,
+            sent,
+            received,
+            bytes,
+            out,
+            set,
+            ..
+        } = black_box(&mut self.native);
+        let accepted = match self.operation {
+            Operation::Read => black_box(reference::read(bytes, sent, received)).is_ok(),
+            Operation::Check => black_box(reference::check(shape, sent, received)).is_ok(),
+            Operation::Write => black_box(reference::write(shape, sent, received, out)).is_ok(),
+            Operation::TestSet => black_box(reference::test_set(shape, sent, received, set)).is_ok(),
+            Operation::Find => black_box(reference::find_line(shape, sent, received)).is_ok(),
+            Operation::Search => black_box(reference::search(shape, sent, received, 1, PURPOSE)).is_ok(),
+            Operation::Move => black_box(reference::move_line(shape, sent, received, PURPOSE)).is_ok(),
+            Operation::Turn => return self.turn_theirs(self.turn),
+            Operation::Session => return self.session_theirs(),
+        };
+        assert!(accepted, "a measured call is accepted");
+    }
+
+    fn start_theirs(&mut self) {
+        let Native {
+            shape,
+            sent,
+            received,
+            out,
+            session,
+            ..
+        } = black_box(&mut self.native);
+        let started = reference::session_start(shape, sent, received, 1, PURPOSE, out);
+        *session = Some(started.expect("a measured start is accepted"));
+    }
+
+    fn turn_theirs(&mut self, p: u64) {
+        let Native {
+            shape,
+            sent,
+            received,
+            out,
+            session,
+            ..
+        } = black_box(&mut self.native);
+        let session = session.as_mut().expect("a session was started");
+        let turn = black_box(reference::session_turn(session, shape, sent, received, p, out));
+        turn.expect("a measured turn is accepted");
+    }
+
+    fn session_theirs(&mut self) {
+        self.start_theirs();
+        let lowest = |native: &Native| {
+            let lengths = native
+                .session
+                .as_ref()
+                .map(|session| session.lengths)
+                .unwrap_or_default();
+            lengths.iter().position(|&length| length > 0)
+        };
+        while let Some(place) = lowest(&self.native) {
+            self.turn_theirs(place as u64 + 1);
+        }
+    }
+
+    /// After a session: how many messages were delivered.
+    pub fn delivered(&self) -> u64 {
+        self.lent.state.lent()[session::DELIVERED]
+    }
+}
+
+/// What an operation is lent through the C interface.
+fn lent_for(operation: Operation, book: &Book) -> Lent {
+    let mut lent = lent_tables(book);
+    lent.bytes = Guarded::holding(&book.bytes());
+    lent.set = Guarded::holding(&set_words(book));
+    lent.out = Guarded::fresh(match operation {
+        Operation::Write => BOOK_BYTES,
+        _ => strand_bytes(book.n()),
+    });
+    lent.state = Guarded::fresh(session::WORDS);
+    lent.result = Guarded::fresh(match operation {
+        Operation::TestSet => PAIR_WORDS,
+        Operation::Move => ORDER_WORDS,
+        _ => SET_WORDS,
+    });
+    lent.names = if operation == Operation::Move {
+        [PURPOSE, 0, 0]
+    } else {
+        [1, PURPOSE, 0]
+    };
+    lent
+}
+
+/// The line as a set, so that every pair is looked at.
+fn set_words(book: &Book) -> [u64; SET_WORDS] {
+    let mut words = [0; SET_WORDS];
+    for (word, r) in words.iter_mut().zip(line(book)) {
+        *word = r as u64;
+    }
+    words
+}

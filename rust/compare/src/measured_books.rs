@@ -1,0 +1,58 @@
+//! The books that measurements use.
+
+use crate::book::{Book, Table};
+use crate::books::ring;
+use crate::layout::LARGEST;
+
+/// Counts for n processes that sum to `total`, as even as may be.
+fn even_counts(n: usize, total: usize) -> Vec<usize> {
+    (0..n).map(|place| total / n + usize::from(place < total % n)).collect()
+}
+
+/// A book in which every counter but those of the oldest checkpoints is large: five bytes each, or one byte each with
+/// `small`. Everything received had been sent, so the line is the newest set.
+pub fn dense(n: usize, checkpoints: usize, small: bool) -> Book {
+    let mut book = Book::of_zeros(&even_counts(n, checkpoints));
+    for j in 1..=n {
+        for r in 2..=book.count(j) {
+            for p in (1..=n).filter(|&p| p != j) {
+                let counter = if small {
+                    1 + (r / 4) as u32
+                } else {
+                    LARGEST as u32 - 300 + r as u32
+                };
+                *book.entry_mut(Table::Sent, j, r, p) = counter + 40;
+                *book.entry_mut(Table::Received, j, r, p) = counter - if small { 1 } else { 100 };
+            }
+        }
+    }
+    book
+}
+
+/// A ring of n processes with this T: as many checkpoints each as needed, the line `held_at` where it divides.
+pub fn ring_with(n: usize, passed: usize) -> Book {
+    ring(n, passed / n + 1, 1)
+}
+
+/// Sixteen processes with sixteen checkpoints each, a run in which everybody talks to everybody: each checkpoint has
+/// received what the others had sent two checkpoints before, but for the last three, which fall.
+pub fn typical(n: usize, each: usize) -> Book {
+    let mut book = Book::of_zeros(&vec![each; n]);
+    for j in 1..=n {
+        for r in 2..=each {
+            for p in (1..=n).filter(|&p| p != j) {
+                let near_end = r + 3 > each && (j + p) % 5 == 0;
+                let lag = if near_end { 0 } else { 2 };
+                *book.entry_mut(Table::Sent, j, r, p) = (1000 * (r - 1) + 7 * j + p) as u32;
+                let heard = (r - 1).saturating_sub(lag);
+                let received = if heard == 0 {
+                    0
+                } else {
+                    1000 * heard + 7 * p + j + 400 * usize::from(near_end)
+                };
+                *book.entry_mut(Table::Received, j, r, p) = received as u32;
+            }
+        }
+    }
+    book
+}

@@ -1,0 +1,149 @@
+//! Counts of cases, by kind and by call and answer, and the table that shows them.
+
+use crate::call::{Call, ANSWERS, CALLS, WRONG_LENGTH};
+
+/// What a case tries.
+#[derive(Clone, Copy, PartialEq, Eq, Debug)]
+pub enum Kind {
+    ValidBook,
+    DamagedBook,
+    ValidTables,
+    DamagedTables,
+    TableLengths,
+    WordLengths,
+    OtherTables,
+    Set,
+    Name,
+    Room,
+    RealMessage,
+    DamagedMessage,
+    ChangedMachine,
+    ForgedMachine,
+    RealTurn,
+    ChangedSession,
+    DamagedStrand,
+    ForgedSession,
+}
+
+/// All kinds, with what the table calls them.
+const KINDS: [(Kind, &str); 18] = [
+    (Kind::ValidBook, "valid books read"),
+    (Kind::DamagedBook, "damaged books read"),
+    (Kind::ValidTables, "valid tables"),
+    (Kind::DamagedTables, "damaged tables"),
+    (Kind::TableLengths, "tables of wrong length"),
+    (Kind::WordLengths, "words of wrong length"),
+    (Kind::OtherTables, "states on other tables"),
+    (Kind::Set, "sets"),
+    (Kind::Name, "names and purposes"),
+    (Kind::Room, "buffers of other length"),
+    (Kind::RealMessage, "messages of real searches"),
+    (Kind::DamagedMessage, "damaged messages"),
+    (Kind::ChangedMachine, "changed machine states"),
+    (Kind::ForgedMachine, "forged machine states"),
+    (Kind::RealTurn, "starts and turns of real sessions"),
+    (Kind::ChangedSession, "changed sessions"),
+    (Kind::DamagedStrand, "damaged strands"),
+    (Kind::ForgedSession, "forged sessions"),
+];
+
+/// The counts.
+#[derive(Clone, Default)]
+pub struct Tally {
+    /// Cases, and accepted ones.
+    kinds: [[u64; 2]; KINDS.len()],
+    answers: [[u64; ANSWERS.len()]; CALLS.len()],
+    pub cases: u64,
+}
+
+impl Tally {
+    /// Counts a case.
+    pub fn add(&mut self, kind: Kind, call: Call, answer: u32) {
+        let kind = KINDS
+            .iter()
+            .position(|entry| entry.0 == kind)
+            .expect("every kind is listed");
+        let column = ANSWERS
+            .iter()
+            .position(|&listed| listed == answer)
+            .expect("compared with a listed answer");
+        self.kinds[kind][0] += 1;
+        self.kinds[kind][1] += u64::from(answer == 0);
+        self.answers[call as usize][column] += 1;
+        self.cases += 1;
+    }
+
+    /// Adds the counts of another run.
+    pub fn merge(&mut self, other: &Tally) {
+        self.kinds
+            .iter_mut()
+            .zip(&other.kinds)
+            .for_each(|(sums, counts)| add_each(sums, counts));
+        self.answers
+            .iter_mut()
+            .zip(&other.answers)
+            .for_each(|(sums, counts)| add_each(sums, counts));
+        self.cases += other.cases;
+    }
+
+    /// Each answer that a call can give and that no case had.
+    pub fn missing(&self) -> Vec<String> {
+        let mut missing = Vec::new();
+        for call in CALLS {
+            for (column, &answer) in ANSWERS.iter().enumerate() {
+                if call.can_answer(answer) && self.answers[call as usize][column] == 0 {
+                    missing.push(format!("{} {answer}", call.name()));
+                }
+            }
+        }
+        missing
+    }
+
+    /// Prints the counts by kind, then those by call and answer; `-` where a call never gives an answer.
+    pub fn print(&self) {
+        println!("{:>10}{:>10}", "cases", "accepted");
+        for (place, (_, name)) in KINDS.iter().enumerate() {
+            let [cases, accepted] = self.kinds[place];
+            println!("{cases:>10}{accepted:>10}  {name}");
+        }
+        println!();
+        print!("{:<20}", "answers");
+        ANSWERS
+            .iter()
+            .for_each(|&answer| print!("{:>width$}", heading(answer), width = width(answer)));
+        println!();
+        for call in CALLS {
+            print!("{:<20}", call.name());
+            for (column, &answer) in ANSWERS.iter().enumerate() {
+                let count = self.answers[call as usize][column];
+                let text = if count > 0 || call.can_answer(answer) {
+                    count.to_string()
+                } else {
+                    "-".into()
+                };
+                print!("{text:>width$}", width = width(answer));
+            }
+            println!();
+        }
+    }
+}
+
+fn add_each(sums: &mut [u64], counts: &[u64]) {
+    sums.iter_mut().zip(counts).for_each(|(sum, count)| *sum += count);
+}
+
+fn heading(answer: u32) -> String {
+    match answer {
+        0 => "accepted".into(),
+        WRONG_LENGTH => "length".into(),
+        question => question.to_string(),
+    }
+}
+
+fn width(answer: u32) -> usize {
+    if answer == 0 {
+        10
+    } else {
+        7
+    }
+}

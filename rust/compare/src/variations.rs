@@ -1,0 +1,233 @@
+//! Variations of a case: the same call with something of what it is lent changed, sometimes two things, so that the
+//! order of the questions shows.
+
+use crate::call::Call;
+use crate::changed_states::{change_initiator, change_participant, change_session, damage_strands};
+use crate::damaged_books::with_bytes_changed;
+use crate::damaged_tables::{change_entries, change_shape, change_table_lengths, change_word_lengths, ODD_NUMBERS};
+use crate::layout::{initiator, message_bytes, participant, session, slot_start, LARGEST, PROCESSES, TABLE_ENTRIES};
+use crate::lent::{Guarded, Lent};
+use crate::messages;
+use crate::random::Random;
+use crate::tally::Kind;
+use crate::theirs;
+
+/// A variation of a case, with what it tries.
+pub fn varied(random: &mut Random, call: Call, lent: &Lent) -> (Kind, Lent) {
+    let mut changed = lent.clone();
+    let kind = one_kind(random, call);
+    change(random, call, kind, &mut changed);
+    if random.once_in(4) {
+        let second = one_kind(random, call);
+        change(random, call, second, &mut changed);
+    }
+    (kind, changed)
+}
+
+/// The kinds of variation that belong to a call.
+fn own_kinds(call: Call) -> &'static [Kind] {
+    match call {
+        Call::Read => &[Kind::DamagedBook],
+        Call::TestSet => &[Kind::Set],
+        Call::Write => &[Kind::Room],
+        Call::ParticipantFirst | Call::Search | Call::Move | Call::RestartOrder => &[Kind::Name],
+        Call::InitiatorBegin | Call::SessionStart => &[Kind::Name, Kind::Room],
+        Call::ParticipantReceive | Call::InitiatorReceive => &OF_MACHINES,
+        Call::SessionTurn => &OF_TURNS,
+        Call::Check | Call::Find => &[],
+    }
+}
+
+const OF_MACHINES: [Kind; 5] = [
+    Kind::DamagedMessage,
+    Kind::DamagedMessage,
+    Kind::ChangedMachine,
+    Kind::OtherTables,
+    Kind::Room,
+];
+
+const OF_TURNS: [Kind; 9] = [
+    Kind::ChangedSession,
+    Kind::ChangedSession,
+    Kind::ChangedSession,
+    Kind::DamagedStrand,
+    Kind::DamagedStrand,
+    Kind::OtherTables,
+    Kind::Room,
+    Kind::Room,
+    Kind::Name,
+];
+
+/// The kinds that every call but a read has.
+const OF_TABLES: [Kind; 5] = [
+    Kind::DamagedTables,
+    Kind::DamagedTables,
+    Kind::DamagedTables,
+    Kind::TableLengths,
+    Kind::WordLengths,
+];
+
+/// A kind of variation for a call, its own more often than those of every call.
+fn one_kind(random: &mut Random, call: Call) -> Kind {
+    let own = own_kinds(call);
+    let common = if call == Call::Read {
+        &OF_TABLES[3..]
+    } else {
+        &OF_TABLES
+    };
+    if own.is_empty() || random.once_in(4) {
+        random.one_of(common)
+    } else {
+        random.one_of(own)
+    }
+}
+
+fn change(random: &mut Random, call: Call, kind: Kind, lent: &mut Lent) {
+    match kind {
+        Kind::DamagedBook => {
+            let bytes = with_bytes_changed(random, lent.bytes.lent().to_vec());
+            lent.bytes = Guarded::holding(&bytes);
+        }
+        Kind::DamagedTables if random.once_in(3) => change_shape(random, lent),
+        Kind::DamagedTables => change_entries(random, lent),
+        Kind::TableLengths => change_table_lengths(random, lent),
+        Kind::WordLengths => change_word_lengths(random, call, lent),
+        Kind::OtherTables => change_tables_validly(random, lent),
+        Kind::Set => change_set(random, lent),
+        Kind::Name => change_name(random, call, lent),
+        Kind::Room => change_room(random, call, lent),
+        Kind::DamagedMessage => damage_message(random, lent),
+        Kind::ChangedMachine if call == Call::ParticipantReceive => change_participant(random, lent.state.lent_mut()),
+        Kind::ChangedMachine => change_initiator(random, lent.state.lent_mut()),
+        Kind::ChangedSession => change_session(random, lent.state.lent_mut()),
+        _ => damage_strands(random, lent),
+    }
+}
+
+/// Changes a word of a set.
+pub fn change_set(random: &mut Random, lent: &mut Lent) {
+    let counts: Vec<u64> = lent.shape.lent().iter().skip(1).copied().collect();
+    let set = lent.set.lent_mut();
+    if set.is_empty() || counts.len() < set.len() {
+        return;
+    }
+    let place = random.below(set.len());
+    set[place] = match random.below(5) {
+        0 => 0,
+        1 => counts[place].wrapping_add(1),
+        2 => (1 << 32) + counts[place] % 256,
+        3 => u64::MAX,
+        _ => random.between(0, 3) as u64,
+    };
+}
+
+/// Changes a process number or a purpose.
+fn change_name(random: &mut Random, call: Call, lent: &mut Lent) {
+    let place = random.below(call.names());
+    lent.names[place] = match random.below(4) {
+        0 => random.one_of(&ODD_NUMBERS),
+        1 => (1 << 32) + lent.names[place],
+        _ => random.between(0, PROCESSES + 1) as u64,
+    };
+}
+
+/// Lends another length of bytes to write to: just enough, one less, none, more, or any.
+fn change_room(random: &mut Random, call: Call, lent: &mut Lent) {
+    let needed = room_needed(random, call, lent);
+    let length = match random.below(6) {
+        0 => 0,
+        1 | 2 => needed.saturating_sub(1),
+        3 => needed,
+        4 => needed + random.between(1, 40),
+        _ => random.between(0, needed),
+    };
+    lent.out = lent.out.resized(length);
+}
+
+/// How many bytes the call writes where there is room, or for a session up to the end of one of its waiting messages.
+fn room_needed(random: &mut Random, call: Call, lent: &Lent) -> usize {
+    let mut trial = lent.clone();
+    if !matches!(call, Call::SessionStart | Call::SessionTurn) {
+        trial.out = trial.out.resized(70_000);
+    }
+    if theirs::run(call, &mut trial) != 0 {
+        return lent.out.lent().len();
+    }
+    match call {
+        Call::Write => trial.numbers[0] as usize,
+        Call::SessionStart | Call::SessionTurn => {
+            let words = trial.state.lent();
+            let (n, initiator) = (words[session::N] as usize, words[session::INITIATOR] as usize);
+            let ends: Vec<usize> = (1..=n)
+                .filter(|p| words[session::WAITING + p - 1] > 0)
+                .map(|p| slot_start(n, initiator, p) + words[session::WAITING + p - 1] as usize)
+                .collect();
+            if ends.is_empty() {
+                message_bytes(n)
+            } else {
+                random.one_of(&ends)
+            }
+        }
+        _ => trial.result.lent().iter().sum::<u64>() as usize,
+    }
+}
+
+/// Damages a message; counters of the receiver's state serve as counters in it.
+fn damage_message(random: &mut Random, lent: &mut Lent) {
+    let n = lent.shape.lent().first().map_or(1, |&n| n.clamp(1, 16)) as usize;
+    let state = lent.state.lent();
+    let held = match state.len() {
+        participant::WORDS => &state[participant::COLUMN..participant::COLUMN + n],
+        initiator::WORDS => &state[initiator::MATRIX..initiator::MATRIX + PROCESSES * n],
+        _ => &[],
+    };
+    let bytes = messages::damaged(random, n, lent.bytes.lent(), held);
+    lent.bytes = Guarded::holding(&bytes);
+}
+
+/// Changes tables so that they stay valid: the state was made on others. Either a counter of newest checkpoints
+/// grows, or a newest checkpoint goes.
+fn change_tables_validly(random: &mut Random, lent: &mut Lent) {
+    let shape = lent.shape.lent();
+    let whole = shape.len() == PROCESSES + 1
+        && (1..=PROCESSES as u64).contains(&shape[0])
+        && shape[1..]
+            .iter()
+            .try_fold(0u64, |sum, &count| sum.checked_add(count))
+            .is_some_and(|sum| sum <= 256)
+        && lent.sent.lent().len() == TABLE_ENTRIES
+        && lent.received.lent().len() == TABLE_ENTRIES;
+    if !whole {
+        return;
+    }
+    let n = shape[0] as usize;
+    let j = random.between(1, n);
+    if shape[j] < 2 {
+        return;
+    }
+    let newest = shape[1..=j].iter().sum::<u64>() as usize - 1;
+    if random.once_in(2) {
+        drop_row(lent, newest);
+        lent.shape.lent_mut()[j] -= 1;
+        return;
+    }
+    let p = random.between(1, n);
+    let table = if random.once_in(2) {
+        &mut lent.sent
+    } else {
+        &mut lent.received
+    };
+    let entry = &mut table.lent_mut()[newest * PROCESSES + p - 1];
+    if p != j && u64::from(*entry) < LARGEST {
+        *entry += 1;
+    }
+}
+
+/// Takes a row out of both tables.
+fn drop_row(lent: &mut Lent, row: usize) {
+    for table in [&mut lent.sent, &mut lent.received] {
+        let table = table.lent_mut();
+        table.copy_within((row + 1) * PROCESSES.., row * PROCESSES);
+        table[TABLE_ENTRIES - PROCESSES..].fill(0);
+    }
+}

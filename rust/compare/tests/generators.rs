@@ -1,0 +1,68 @@
+//! What the generators promise, seen by the independent implementation alone.
+
+use compare::book::{Book, Table};
+use compare::books::{any_book, small_book};
+use compare::call::Call;
+use compare::claims::waiting;
+use compare::forged::ForgedSession;
+use compare::lent::{Guarded, Lent};
+use compare::line::{is_line_of_all_sets, line, passed};
+use compare::random::Random;
+use compare::scenarios::lent_tables;
+use compare::theirs;
+
+#[test]
+fn books_are_valid() {
+    let random = &mut Random::new(1);
+    for _ in 0..2000 {
+        let book = any_book(random);
+        assert_eq!(theirs::run(Call::Check, &mut lent_tables(&book)), 0);
+        assert_eq!(theirs::run(Call::Read, &mut Lent::book(&book.bytes())), 0);
+    }
+}
+
+#[test]
+fn line_by_sweeps_is_line_by_all_sets() {
+    let random = &mut Random::new(2);
+    for _ in 0..2000 {
+        let book = small_book(random);
+        assert!(is_line_of_all_sets(&book, &line(&book)));
+    }
+}
+
+#[test]
+fn line_of_example_1() {
+    let mut book = Book::of_zeros(&[2, 2, 2]);
+    *book.entry_mut(Table::Received, 1, 2, 2) = 4;
+    *book.entry_mut(Table::Received, 1, 2, 3) = 5;
+    *book.entry_mut(Table::Sent, 2, 2, 1) = 3;
+    *book.entry_mut(Table::Sent, 3, 2, 1) = 7;
+    let bytes = [
+        3, 2, 0, 0, 0, 0, 0, 0, 4, 5, 2, 0, 0, 0, 0, 3, 0, 0, 0, 2, 0, 0, 0, 0, 7, 0, 0, 0,
+    ];
+    assert_eq!(book.bytes(), bytes);
+    assert_eq!(line(&book), [1, 2, 2]);
+    assert_eq!(passed(&book, &line(&book)), 1);
+}
+
+#[test]
+fn most_forged_sessions_take_a_turn() {
+    let random = &mut Random::new(3);
+    let mut accepted = 0;
+    for _ in 0..1000 {
+        let book = small_book(random);
+        if book.n() < 2 {
+            continue;
+        }
+        let me = random.between(1, book.n());
+        let forged = ForgedSession::new(random, &book, me, 1);
+        let mut lent = lent_tables(&book);
+        lent.state = Guarded::holding(&forged.words);
+        lent.out = Guarded::holding(&forged.strands);
+        if let Some(&p) = waiting(&forged.words).first() {
+            lent.names = [p as u64, 0, 0];
+            accepted += u32::from(theirs::run(Call::SessionTurn, &mut lent) == 0);
+        }
+    }
+    assert!(accepted > 400, "{accepted} of 1000");
+}

@@ -1,0 +1,93 @@
+//! The initiator's machine.
+
+use crate::messages::Messages;
+use crate::names::{Checkpoint, Count, Process, Purpose};
+use crate::raw;
+use crate::refusal::Refusal;
+use crate::sys::{RECOVERY_LINE_INITIATOR_WORDS, RECOVERY_LINE_PROCESSES};
+use crate::tables::Tables;
+
+// Places in the words; a session has them too.
+const PROCESS: usize = 1;
+const PURPOSE: usize = 2;
+pub(crate) const ENDED: usize = 3;
+pub(crate) const CANDIDATE: usize = 4;
+pub(crate) const ROUNDS: usize = 5;
+const AWAITED: usize = 6;
+const MATRIX: usize = 22;
+
+/// The machine of the worker that begins a search; [`Tables::initiator`] makes it.
+#[derive(Clone, Debug, PartialEq, Eq)]
+pub struct Initiator(Box<[u64; RECOVERY_LINE_INITIATOR_WORDS]>);
+
+impl Initiator {
+    pub(crate) fn from_boxed(words: Box<[u64; RECOVERY_LINE_INITIATOR_WORDS]>) -> Initiator {
+        Initiator(words)
+    }
+
+    /// Receives a participant's report and, when it was the last one awaited, takes its step; what it sends (nothing, polls
+    /// or terminations) is to be delivered to the participants.
+    pub fn receive(&mut self, tables: &Tables, message: &[u8]) -> Result<Messages, Refusal> {
+        Messages::written(|out, lengths| {
+            raw::initiator_receive(
+                &mut self.0[..],
+                tables.shape(),
+                tables.sent(),
+                tables.received(),
+                message,
+                out,
+                lengths,
+            )
+        })
+    }
+
+    /// Its own process.
+    pub fn process(&self) -> Process {
+        Process::new(self.0[PROCESS])
+    }
+
+    /// What the search is for.
+    pub fn purpose(&self) -> Purpose {
+        Purpose::in_word(self.0[PURPOSE])
+    }
+
+    /// Whether it has ended.
+    pub fn ended(&self) -> bool {
+        self.0[ENDED] != 0
+    }
+
+    /// The checkpoint that it stands on.
+    pub fn candidate(&self) -> Checkpoint {
+        Checkpoint::new(self.0[CANDIDATE])
+    }
+
+    /// How many waits have begun.
+    pub fn rounds(&self) -> u64 {
+        self.0[ROUNDS]
+    }
+
+    /// Whether it awaits a report of that process.
+    pub fn awaits(&self, process: Process) -> bool {
+        process.place().is_some_and(|place| self.0[AWAITED + place] != 0)
+    }
+
+    /// What it knows the sender's candidate to have sent to the receiver; `None` if it does not know.
+    pub fn known(&self, sender: Process, receiver: Process) -> Option<Count> {
+        let entry = sender.place()? * RECOVERY_LINE_PROCESSES + receiver.place()?;
+        Count::known(self.0[MATRIX + entry])
+    }
+
+    /// The state as words, to be stored.
+    pub fn words(&self) -> &[u64; RECOVERY_LINE_INITIATOR_WORDS] {
+        &self.0
+    }
+
+    /// The state that was stored as these words.
+    ///
+    /// Refused are a wrong length and a purpose that is none (11); whether the state fits the tables is asked by every step.
+    pub fn from_words(words: &[u64]) -> Result<Initiator, Refusal> {
+        let words: [u64; RECOVERY_LINE_INITIATOR_WORDS] = words.try_into().map_err(|_| Refusal::WRONG_LENGTH)?;
+        Purpose::from_number(words[PURPOSE])?;
+        Ok(Initiator(Box::new(words)))
+    }
+}

@@ -1,0 +1,119 @@
+//! Processes, checkpoints, counts and purposes: small integers that are never interchangeable.
+
+use crate::refusal::Refusal;
+use crate::sys;
+use std::fmt;
+
+/// Gives a tuple struct of one number its constructor, its accessor and its display.
+macro_rules! number {
+    ($name:ident) => {
+        impl $name {
+            /// Takes any number: whether it names something is asked by each call that it is lent to.
+            pub const fn new(number: u64) -> Self {
+                $name(number)
+            }
+
+            /// The number itself.
+            pub const fn number(self) -> u64 {
+                self.0
+            }
+        }
+
+        impl fmt::Display for $name {
+            fn fmt(&self, f: &mut fmt::Formatter<'_>) -> fmt::Result {
+                fmt::Display::fmt(&self.0, f)
+            }
+        }
+    };
+}
+
+/// A process, numbered from 1.
+#[derive(Clone, Copy, Debug, PartialEq, Eq, PartialOrd, Ord, Hash)]
+pub struct Process(u64);
+number!(Process);
+
+impl Process {
+    /// The processes that a book of `n` has, in rising order.
+    pub fn all(n: u64) -> impl DoubleEndedIterator<Item = Process> + Clone {
+        (1..=n).map(Process)
+    }
+
+    /// Its place in a row of sixteen, if it is one of sixteen.
+    pub(crate) fn place(self) -> Option<usize> {
+        let place = usize::try_from(self.0.checked_sub(1)?).ok()?;
+        (place < sys::RECOVERY_LINE_PROCESSES).then_some(place)
+    }
+}
+
+/// A checkpoint of a process, numbered from 1, the oldest.
+#[derive(Clone, Copy, Debug, PartialEq, Eq, PartialOrd, Ord, Hash)]
+pub struct Checkpoint(u64);
+number!(Checkpoint);
+
+impl Checkpoint {
+    /// The oldest checkpoint of every process.
+    pub const OLDEST: Checkpoint = Checkpoint(1);
+}
+
+/// A number of messages that a checkpoint had sent or received.
+#[derive(Clone, Copy, Debug, PartialEq, Eq, PartialOrd, Ord, Hash)]
+pub struct Count(u64);
+number!(Count);
+
+impl Count {
+    /// The counter in a word or an entry; `None` if it is not known.
+    pub(crate) fn known(number: u64) -> Option<Count> {
+        (number != u64::from(sys::RECOVERY_LINE_NOT_KNOWN)).then_some(Count(number))
+    }
+}
+
+/// What a search or a move is for.
+#[derive(Clone, Copy, Debug, PartialEq, Eq, Hash)]
+pub enum Purpose {
+    /// Advance the line.
+    Advance,
+    /// Restart only, from the oldest checkpoints.
+    Restart,
+    /// Advance the line and restart from it.
+    AdvanceAndRestart,
+}
+
+impl Purpose {
+    /// Its number: 1, 2 or 3.
+    pub const fn number(self) -> u64 {
+        match self {
+            Purpose::Advance => sys::RECOVERY_LINE_ADVANCE,
+            Purpose::Restart => sys::RECOVERY_LINE_RESTART,
+            Purpose::AdvanceAndRestart => sys::RECOVERY_LINE_ADVANCE_AND_RESTART,
+        }
+    }
+
+    /// The purpose of that number; any other than 1, 2 and 3 is refused by question 11.
+    pub const fn from_number(number: u64) -> Result<Purpose, Refusal> {
+        match number {
+            sys::RECOVERY_LINE_ADVANCE => Ok(Purpose::Advance),
+            sys::RECOVERY_LINE_RESTART => Ok(Purpose::Restart),
+            sys::RECOVERY_LINE_ADVANCE_AND_RESTART => Ok(Purpose::AdvanceAndRestart),
+            _ => Err(Refusal::NO_PURPOSE),
+        }
+    }
+
+    /// The purpose in a word that [`Purpose::from_number`] takes.
+    pub(crate) const fn in_word(word: u64) -> Purpose {
+        match word {
+            sys::RECOVERY_LINE_ADVANCE => Purpose::Advance,
+            sys::RECOVERY_LINE_RESTART => Purpose::Restart,
+            _ => Purpose::AdvanceAndRestart,
+        }
+    }
+}
+
+impl fmt::Display for Purpose {
+    fn fmt(&self, f: &mut fmt::Formatter<'_>) -> fmt::Result {
+        f.write_str(match self {
+            Purpose::Advance => "advance",
+            Purpose::Restart => "restart",
+            Purpose::AdvanceAndRestart => "advance and restart",
+        })
+    }
+}

@@ -1,0 +1,118 @@
+//! The participant's machine.
+
+use crate::messages::Messages;
+use crate::names::{Checkpoint, Count, Process, Purpose};
+use crate::raw;
+use crate::refusal::Refusal;
+use crate::sys::RECOVERY_LINE_PARTICIPANT_WORDS;
+use crate::tables::Tables;
+
+// Places in the words; a session has them too.
+const PROCESS: usize = 1;
+const INITIATOR: usize = 2;
+const PURPOSE: usize = 3;
+pub(crate) const STAGE: usize = 4;
+pub(crate) const CANDIDATE: usize = 5;
+const ROW: usize = 6;
+const COLUMN: usize = 22;
+
+pub(crate) const LAST_STAGE: u64 = 2;
+
+/// How far a participant has come.
+#[derive(Clone, Copy, Debug, PartialEq, Eq, Hash)]
+pub enum Stage {
+    /// It waits for its invitation.
+    BeforeInvitation,
+    /// It takes part in a search.
+    Searching,
+    /// It has ended, and stands on its candidate.
+    Ended,
+}
+
+/// A worker's machine in a search that another process begins; [`Tables::participant`] makes it.
+#[derive(Clone, Debug, PartialEq, Eq)]
+pub struct Participant([u64; RECOVERY_LINE_PARTICIPANT_WORDS]);
+
+impl Participant {
+    pub(crate) fn from_array(words: [u64; RECOVERY_LINE_PARTICIPANT_WORDS]) -> Participant {
+        Participant(words)
+    }
+
+    /// Receives a message of the initiator and takes the step that it asks for; what it answers with is to be delivered to
+    /// the initiator.
+    pub fn receive(&mut self, tables: &Tables, message: &[u8]) -> Result<Messages, Refusal> {
+        Messages::written(|out, lengths| {
+            raw::participant_receive(
+                &mut self.0,
+                tables.shape(),
+                tables.sent(),
+                tables.received(),
+                message,
+                out,
+                lengths,
+            )
+        })
+    }
+
+    /// Its own process.
+    pub fn process(&self) -> Process {
+        Process::new(self.0[PROCESS])
+    }
+
+    /// The process that begins the search.
+    pub fn initiator(&self) -> Process {
+        Process::new(self.0[INITIATOR])
+    }
+
+    /// What the search is for.
+    pub fn purpose(&self) -> Purpose {
+        Purpose::in_word(self.0[PURPOSE])
+    }
+
+    /// How far it has come.
+    pub fn stage(&self) -> Stage {
+        match self.0[STAGE] {
+            0 => Stage::BeforeInvitation,
+            1 => Stage::Searching,
+            _ => Stage::Ended,
+        }
+    }
+
+    /// Whether it has ended.
+    pub fn ended(&self) -> bool {
+        self.stage() == Stage::Ended
+    }
+
+    /// The checkpoint that it stands on.
+    pub fn candidate(&self) -> Checkpoint {
+        Checkpoint::new(self.0[CANDIDATE])
+    }
+
+    /// The sent counter that it last reported for a partner; `None` before its first report.
+    pub fn reported(&self, partner: Process) -> Option<Count> {
+        Count::known(self.0[ROW + partner.place()?])
+    }
+
+    /// What it knows to have been sent to it by a partner; `None` if it does not know.
+    pub fn known(&self, partner: Process) -> Option<Count> {
+        Count::known(self.0[COLUMN + partner.place()?])
+    }
+
+    /// The state as words, to be stored.
+    pub fn words(&self) -> &[u64; RECOVERY_LINE_PARTICIPANT_WORDS] {
+        &self.0
+    }
+
+    /// The state that was stored as these words.
+    ///
+    /// Refused are a wrong length, a purpose that is none (11) and a stage that is none (13); whether the state fits the
+    /// tables is asked by every step.
+    pub fn from_words(words: &[u64]) -> Result<Participant, Refusal> {
+        let words: [u64; RECOVERY_LINE_PARTICIPANT_WORDS] = words.try_into().map_err(|_| Refusal::WRONG_LENGTH)?;
+        Purpose::from_number(words[PURPOSE])?;
+        if words[STAGE] > LAST_STAGE {
+            return Err(Refusal::MISFIT);
+        }
+        Ok(Participant(words))
+    }
+}

@@ -1,0 +1,83 @@
+//! Why a call refuses.
+
+use crate::sys;
+use std::error::Error;
+use std::fmt;
+use std::num::NonZeroU32;
+
+/// The first question that a call fails; the call has then changed nothing that was lent to it.
+#[derive(Clone, Copy, Debug, PartialEq, Eq, PartialOrd, Ord, Hash)]
+pub struct Refusal(NonZeroU32);
+
+impl Refusal {
+    /// The refusal of a slice of words whose length is not the named one.
+    pub const WRONG_LENGTH: Refusal = Refusal::numbered(sys::RECOVERY_LINE_WRONG_LENGTH);
+    /// The refusal of a purpose that is not 1, 2 or 3.
+    pub(crate) const NO_PURPOSE: Refusal = Refusal::numbered(11);
+    /// The refusal of a state that does not fit.
+    pub(crate) const MISFIT: Refusal = Refusal::numbered(13);
+
+    const fn numbered(number: u32) -> Refusal {
+        match NonZeroU32::new(number) {
+            Some(number) => Refusal(number),
+            None => Refusal(NonZeroU32::MIN),
+        }
+    }
+
+    /// What the answer of a call of the C interface says: 0 accepts, every other number refuses.
+    pub fn from_answer(answer: u32) -> Result<(), Refusal> {
+        match NonZeroU32::new(answer) {
+            Some(question) => Err(Refusal(question)),
+            None => Ok(()),
+        }
+    }
+
+    /// The number of the question, or 100 for a wrong length.
+    pub const fn question(self) -> u32 {
+        self.0.get()
+    }
+
+    /// The question as the specification puts it; for a wrong length, what is wrong.
+    pub const fn sentence(self) -> &'static str {
+        match self.question() {
+            1 => "Are there at most 65,536 book bytes?",
+            2 => "Has each table 4,096 entries?",
+            3 => "Is the number whole, shortest, at most 5 bytes and 4,294,967,295?",
+            4 => "Is n from 1 to 16?",
+            5 => "Is the count at least 1 and the sum so far at most 256?",
+            6 => "Is the counter other than 4,294,967,295?",
+            7 => "Is it zero, in an oldest checkpoint?",
+            8 => "Is it no lower than the same counter one checkpoint before?",
+            9 => "Does nothing follow, and in tables, is everything unused zero?",
+            10 => "Is each process named from 1 to n (a participant: other than the initiator)?",
+            11 => "Is the purpose 1, 2 or 3?",
+            12 => "Does each named checkpoint exist?",
+            13 => "Does the state fit the tables?",
+            14 => {
+                "Is the message formed as above (purposes 1 to 3, processes 1 to n), purpose 2 only in an invitation?"
+            }
+            15 => {
+                "Is it awaited here: right sender, purpose, kind, and in a first report (the sender's row all \
+                 \"not known\") n \u{2212} 1 pairs?"
+            }
+            16 => "Is each counter lower than the entry now held (by the initiator, in its matrix)?",
+            17 => "Do the bytes to be written fit the buffer?",
+            18 => "Is a message waiting on that strand?",
+            sys::RECOVERY_LINE_WRONG_LENGTH => "A slice of words has the wrong length.",
+            _ => "The specification has no such question.",
+        }
+    }
+}
+
+impl fmt::Display for Refusal {
+    fn fmt(&self, f: &mut fmt::Formatter<'_>) -> fmt::Result {
+        let what = if *self == Refusal::WRONG_LENGTH {
+            ""
+        } else {
+            "question "
+        };
+        write!(f, "{what}{}: {}", self.question(), self.sentence())
+    }
+}
+
+impl Error for Refusal {}

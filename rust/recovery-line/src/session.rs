@@ -1,0 +1,163 @@
+//! A session: all machines of one search in one place.
+
+use crate::initiator;
+use crate::names::{Checkpoint, Process, Purpose};
+use crate::participant;
+use crate::raw;
+use crate::refusal::Refusal;
+use crate::sys::{
+    RECOVERY_LINE_INITIATOR_WORDS, RECOVERY_LINE_MESSAGE_BYTES, RECOVERY_LINE_PARTICIPANT_WORDS,
+    RECOVERY_LINE_PROCESSES, RECOVERY_LINE_SESSION_WORDS, RECOVERY_LINE_STRAND_BYTES,
+};
+use crate::tables::Tables;
+
+// Places in the words.
+const N: usize = 0;
+const INITIATOR: usize = 1;
+const PURPOSE: usize = 2;
+const INITIATOR_STATE: usize = 3;
+const PARTICIPANTS: usize = INITIATOR_STATE + RECOVERY_LINE_INITIATOR_WORDS;
+const WAITING: usize = PARTICIPANTS + RECOVERY_LINE_PROCESSES * RECOVERY_LINE_PARTICIPANT_WORDS;
+const DELIVERED: usize = WAITING + RECOVERY_LINE_PROCESSES;
+
+/// All machines of one search, with the messages that wait between them: each participant has one strand to the initiator,
+/// with at most one message waiting on it.
+#[derive(Clone, Debug, PartialEq, Eq)]
+pub struct Session {
+    words: Box<[u64; RECOVERY_LINE_SESSION_WORDS]>,
+    strands: Vec<u8>,
+}
+
+impl Session {
+    /// Starts a session: the initiator has begun, and its invitations wait.
+    pub fn start(tables: &Tables, initiator: Process, purpose: Purpose) -> Result<Session, Refusal> {
+        let mut session = Session {
+            words: Box::new([0; RECOVERY_LINE_SESSION_WORDS]),
+            strands: vec![0; RECOVERY_LINE_STRAND_BYTES(RECOVERY_LINE_PROCESSES)],
+        };
+        raw::session_start(
+            tables.shape(),
+            tables.sent(),
+            tables.received(),
+            initiator.number(),
+            purpose.number(),
+            &mut session.words[..],
+            &mut session.strands,
+        )?;
+        Ok(session)
+    }
+
+    /// Delivers the message that waits on a participant's strand; the replies wait then.
+    pub fn turn(&mut self, tables: &Tables, participant: Process) -> Result<(), Refusal> {
+        raw::session_turn(
+            &mut self.words[..],
+            tables.shape(),
+            tables.sent(),
+            tables.received(),
+            participant.number(),
+            &mut self.strands,
+        )
+    }
+
+    /// The number of processes, n.
+    pub fn processes(&self) -> u64 {
+        self.words[N]
+    }
+
+    /// The process that began the search.
+    pub fn initiator(&self) -> Process {
+        Process::new(self.words[INITIATOR])
+    }
+
+    /// What the search is for.
+    pub fn purpose(&self) -> Purpose {
+        Purpose::in_word(self.words[PURPOSE])
+    }
+
+    /// The checkpoint that a process stands on; `None` for an absent one.
+    pub fn candidate(&self, process: Process) -> Option<Checkpoint> {
+        let word = if process == self.initiator() {
+            self.words[INITIATOR_STATE + initiator::CANDIDATE]
+        } else {
+            self.words[participant_state(process)? + participant::CANDIDATE]
+        };
+        (word != 0).then_some(Checkpoint::new(word))
+    }
+
+    /// Whether a process has ended.
+    pub fn ended(&self, process: Process) -> bool {
+        if process == self.initiator() {
+            return self.words[INITIATOR_STATE + initiator::ENDED] != 0;
+        }
+        participant_state(process).is_some_and(|at| self.words[at + participant::STAGE] == participant::LAST_STAGE)
+    }
+
+    /// Whether every process has ended.
+    pub fn all_ended(&self) -> bool {
+        Process::all(self.processes()).all(|process| self.ended(process))
+    }
+
+    /// How many waits of the initiator have begun.
+    pub fn rounds(&self) -> u64 {
+        self.words[INITIATOR_STATE + initiator::ROUNDS]
+    }
+
+    /// How many messages were delivered.
+    pub fn delivered(&self) -> u64 {
+        self.words[DELIVERED]
+    }
+
+    /// The participants on whose strand a message waits, in rising order.
+    pub fn waiting(&self) -> impl Iterator<Item = Process> {
+        let all = Process::all(RECOVERY_LINE_PROCESSES as u64);
+        let waiting: Vec<Process> = all.filter(|process| self.message(*process).is_some()).collect();
+        waiting.into_iter()
+    }
+
+    /// The message that waits on a participant's strand, if one does.
+    pub fn message(&self, participant: Process) -> Option<&[u8]> {
+        let length = usize::try_from(self.words[WAITING + participant.place()?]).ok()?;
+        let start = self.strand_start(participant)?;
+        let end = start.checked_add(length)?;
+        self.strands.get(start..end).filter(|message| !message.is_empty())
+    }
+
+    /// The session as words, to be stored with its strands.
+    pub fn words(&self) -> &[u64; RECOVERY_LINE_SESSION_WORDS] {
+        &self.words
+    }
+
+    /// The bytes of the strands.
+    pub fn strands(&self) -> &[u8] {
+        &self.strands
+    }
+
+    /// The session that was stored as these words and strands.
+    ///
+    /// Refused are a wrong length of the words and a purpose that is none (11); whether the session fits the tables is asked
+    /// by every turn. No turn can tell that it was not changed meanwhile: only one that was stored as it is ends on the line.
+    pub fn from_words(words: &[u64], strands: &[u8]) -> Result<Session, Refusal> {
+        let words: [u64; RECOVERY_LINE_SESSION_WORDS] = words.try_into().map_err(|_| Refusal::WRONG_LENGTH)?;
+        Purpose::from_number(words[PURPOSE])?;
+        Ok(Session {
+            words: Box::new(words),
+            strands: strands.to_vec(),
+        })
+    }
+
+    /// Where a participant's slot starts: those of the participants follow one another, and the initiator has none.
+    fn strand_start(&self, participant: Process) -> Option<usize> {
+        let n = usize::try_from(self.processes())
+            .ok()
+            .filter(|n| (1..=RECOVERY_LINE_PROCESSES).contains(n))?;
+        let before = participant
+            .place()?
+            .checked_sub(usize::from(participant > self.initiator()))?;
+        Some(before * RECOVERY_LINE_MESSAGE_BYTES(n))
+    }
+}
+
+/// Where a participant's state stands in the words.
+fn participant_state(process: Process) -> Option<usize> {
+    Some(PARTICIPANTS + process.place()? * RECOVERY_LINE_PARTICIPANT_WORDS)
+}

@@ -1,0 +1,81 @@
+//! Sets of checkpoints, and what is found.
+
+use crate::names::{Checkpoint, Process};
+use crate::refusal::Refusal;
+use crate::sys::RECOVERY_LINE_SET_WORDS;
+use std::fmt;
+
+/// One checkpoint for each process, none for absent ones.
+#[derive(Clone, Copy, Debug, PartialEq, Eq, Hash)]
+pub struct Set([u64; RECOVERY_LINE_SET_WORDS]);
+
+impl Set {
+    /// The set of these checkpoints, of processes 1, 2 and so on; more than sixteen are refused by
+    /// [`Refusal::WRONG_LENGTH`].
+    pub fn new(checkpoints: &[Checkpoint]) -> Result<Set, Refusal> {
+        let mut words = [0; RECOVERY_LINE_SET_WORDS];
+        let named = words.get_mut(..checkpoints.len()).ok_or(Refusal::WRONG_LENGTH)?;
+        for (word, checkpoint) in named.iter_mut().zip(checkpoints) {
+            *word = checkpoint.number();
+        }
+        Ok(Set(words))
+    }
+
+    pub(crate) fn from_array(words: [u64; RECOVERY_LINE_SET_WORDS]) -> Set {
+        Set(words)
+    }
+
+    /// The checkpoint of a process, if the set has one.
+    pub fn checkpoint(&self, process: Process) -> Option<Checkpoint> {
+        let word = self.0[process.place()?];
+        (word != 0).then_some(Checkpoint::new(word))
+    }
+
+    /// Each process that has a checkpoint, with it.
+    pub fn iter(&self) -> impl Iterator<Item = (Process, Checkpoint)> + '_ {
+        Process::all(RECOVERY_LINE_SET_WORDS as u64).filter_map(|process| Some((process, self.checkpoint(process)?)))
+    }
+
+    /// Sixteen checkpoint numbers, 0 for absent processes.
+    pub fn words(&self) -> &[u64; RECOVERY_LINE_SET_WORDS] {
+        &self.0
+    }
+
+    /// The set of sixteen words; any other number of them is refused by [`Refusal::WRONG_LENGTH`].
+    pub fn from_words(words: &[u64]) -> Result<Set, Refusal> {
+        words.try_into().map(Set).map_err(|_| Refusal::WRONG_LENGTH)
+    }
+}
+
+impl fmt::Display for Set {
+    /// The checkpoint numbers of the processes that have one, with spaces between.
+    fn fmt(&self, f: &mut fmt::Formatter<'_>) -> fmt::Result {
+        for (i, (_, checkpoint)) in self.iter().enumerate() {
+            let space = if i == 0 { "" } else { " " };
+            write!(f, "{space}{checkpoint}")?;
+        }
+        Ok(())
+    }
+}
+
+/// The recovery line.
+#[derive(Clone, Copy, Debug, PartialEq, Eq, Hash)]
+pub struct Line {
+    /// The checkpoint of each process.
+    pub set: Set,
+    /// How many checkpoints are newer than the line's.
+    pub passed: u64,
+}
+
+/// What a search came to.
+#[derive(Clone, Copy, Debug, PartialEq, Eq, Hash)]
+pub struct Search {
+    /// Where everybody has ended: the line, or checkpoint 1 after a bare restart.
+    pub set: Set,
+    /// How many checkpoints are newer than these.
+    pub passed: u64,
+    /// How many waits of the initiator it took.
+    pub rounds: u64,
+    /// How many messages were delivered.
+    pub messages: u64,
+}

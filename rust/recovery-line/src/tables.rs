@@ -1,0 +1,244 @@
+//! Books in memory: the shape and the two tables.
+
+use crate::initiator::Initiator;
+use crate::messages::Messages;
+use crate::names::{Checkpoint, Count, Process, Purpose};
+use crate::order::Order;
+use crate::participant::Participant;
+use crate::raw;
+use crate::refusal::Refusal;
+use crate::set::{Line, Search, Set};
+use crate::sys::{
+    RECOVERY_LINE_BOOK_BYTES, RECOVERY_LINE_INITIATOR_WORDS, RECOVERY_LINE_ORDER_WORDS, RECOVERY_LINE_PAIR_WORDS,
+    RECOVERY_LINE_PARTICIPANT_WORDS, RECOVERY_LINE_PROCESSES, RECOVERY_LINE_SET_WORDS, RECOVERY_LINE_SHAPE_WORDS,
+    RECOVERY_LINE_TABLE_ENTRIES,
+};
+use std::fmt;
+
+/// The number of processes, and how many checkpoints each of sixteen has.
+pub type Shape = [u64; RECOVERY_LINE_SHAPE_WORDS];
+
+/// A table: a row of sixteen counters for each checkpoint.
+pub type Table = Box<[u32; RECOVERY_LINE_TABLE_ENTRIES]>;
+
+/// A checkpoint book in memory: which checkpoints there are, and what each had sent and received.
+///
+/// Every method puts the questions of tables again, so that tables from elsewhere ([`Tables::from_parts`]) are refused where
+/// they are wrong, and tables that were read from a book never are.
+#[derive(Clone, PartialEq, Eq)]
+pub struct Tables {
+    shape: Shape,
+    sent: Table,
+    received: Table,
+}
+
+impl Tables {
+    /// Reads a checkpoint book, or refuses it by the first of questions 1 to 9 that it fails.
+    pub fn read(bytes: &[u8]) -> Result<Tables, Refusal> {
+        let mut tables = Tables {
+            shape: [0; RECOVERY_LINE_SHAPE_WORDS],
+            sent: Box::new([0; RECOVERY_LINE_TABLE_ENTRIES]),
+            received: Box::new([0; RECOVERY_LINE_TABLE_ENTRIES]),
+        };
+        tables.read_over(bytes)?;
+        Ok(tables)
+    }
+
+    /// Reads a checkpoint book in the place of this one, which stays if the new one is refused.
+    pub fn read_over(&mut self, bytes: &[u8]) -> Result<(), Refusal> {
+        raw::read(bytes, &mut self.shape, &mut self.sent[..], &mut self.received[..])
+    }
+
+    /// Takes a shape and two tables as they are.
+    pub fn from_parts(shape: Shape, sent: Table, received: Table) -> Tables {
+        Tables { shape, sent, received }
+    }
+
+    /// Gives back the shape, the sent and the received table.
+    pub fn into_parts(self) -> (Shape, Table, Table) {
+        (self.shape, self.sent, self.received)
+    }
+
+    /// Puts the questions of tables: 2, 4, 5, 6 to 8 and 9.
+    pub fn check(&self) -> Result<(), Refusal> {
+        raw::check(&self.shape, &self.sent[..], &self.received[..])
+    }
+
+    /// Writes the book, the same bytes that it was read from.
+    pub fn write(&self) -> Result<Vec<u8>, Refusal> {
+        let mut bytes = vec![0; RECOVERY_LINE_BOOK_BYTES];
+        let length = self.write_to(&mut bytes)?;
+        bytes.truncate(length);
+        Ok(bytes)
+    }
+
+    /// Writes the book to the start of a buffer, whose other bytes stay, and gives its length; question 17 asks the room.
+    pub fn write_to(&self, out: &mut [u8]) -> Result<usize, Refusal> {
+        let mut length = 0;
+        raw::write(&self.shape, &self.sent[..], &self.received[..], out, &mut length)?;
+        Ok(length as usize)
+    }
+
+    /// Tests a set: `None` if it is consistent, else a pair (j, p) such that j's checkpoint received more from p than p's had
+    /// sent to j.
+    pub fn test_set(&self, set: &Set) -> Result<Option<(Process, Process)>, Refusal> {
+        let mut pair = [0; RECOVERY_LINE_PAIR_WORDS];
+        raw::test_set(&self.shape, &self.sent[..], &self.received[..], set.words(), &mut pair)?;
+        Ok((pair != [0, 0]).then(|| (Process::new(pair[0]), Process::new(pair[1]))))
+    }
+
+    /// Finds the line: the consistent set that is nowhere earlier than any other.
+    pub fn find_line(&self) -> Result<Line, Refusal> {
+        let mut line = [0; RECOVERY_LINE_SET_WORDS];
+        let mut passed = 0;
+        raw::find_line(&self.shape, &self.sent[..], &self.received[..], &mut line, &mut passed)?;
+        Ok(Line {
+            set: Set::from_array(line),
+            passed,
+        })
+    }
+
+    /// Runs a search by messages from its start to its end, lowest waiting strand first.
+    pub fn search(&self, initiator: Process, purpose: Purpose) -> Result<Search, Refusal> {
+        let mut set = [0; RECOVERY_LINE_SET_WORDS];
+        let (mut passed, mut rounds, mut messages) = (0, 0, 0);
+        raw::search(
+            &self.shape,
+            &self.sent[..],
+            &self.received[..],
+            initiator.number(),
+            purpose.number(),
+            &mut set,
+            &mut passed,
+            &mut rounds,
+            &mut messages,
+        )?;
+        Ok(Search {
+            set: Set::from_array(set),
+            passed,
+            rounds,
+            messages,
+        })
+    }
+
+    /// Moves the line in these tables, and gives the restart order, whose checkpoints are numbered as before the move.
+    pub fn move_line(&mut self, purpose: Purpose) -> Result<Order, Refusal> {
+        let mut order = [0; RECOVERY_LINE_ORDER_WORDS];
+        raw::move_line(
+            &mut self.shape,
+            &mut self.sent[..],
+            &mut self.received[..],
+            purpose.number(),
+            &mut order,
+        )?;
+        Ok(Order::from_array(order))
+    }
+
+    /// Gives the restart order that [`Tables::move_line`] would give, and moves nothing.
+    pub fn restart_order(&self, purpose: Purpose) -> Result<Order, Refusal> {
+        let mut order = [0; RECOVERY_LINE_ORDER_WORDS];
+        raw::restart_order(
+            &self.shape,
+            &self.sent[..],
+            &self.received[..],
+            purpose.number(),
+            &mut order,
+        )?;
+        Ok(Order::from_array(order))
+    }
+
+    /// Makes the machine of process `me`, which waits for the initiator's invitation.
+    ///
+    /// Of the tables only the rows of process `me` matter beyond the check.
+    pub fn participant(&self, me: Process, initiator: Process, purpose: Purpose) -> Result<Participant, Refusal> {
+        let mut state = [0; RECOVERY_LINE_PARTICIPANT_WORDS];
+        raw::participant_first(
+            &self.shape,
+            &self.sent[..],
+            &self.received[..],
+            me.number(),
+            initiator.number(),
+            purpose.number(),
+            &mut state,
+        )?;
+        Ok(Participant::from_array(state))
+    }
+
+    /// Begins a search, or with [`Purpose::Restart`] a bare restart: the machine of process `me`, and the invitations.
+    ///
+    /// Of the tables only the rows of process `me` matter beyond the check.
+    pub fn initiator(&self, me: Process, purpose: Purpose) -> Result<(Initiator, Messages), Refusal> {
+        let mut state = Box::new([0; RECOVERY_LINE_INITIATOR_WORDS]);
+        let messages = Messages::written(|out, lengths| {
+            raw::initiator_begin(
+                &self.shape,
+                &self.sent[..],
+                &self.received[..],
+                me.number(),
+                purpose.number(),
+                &mut state[..],
+                out,
+                lengths,
+            )
+        })?;
+        Ok((Initiator::from_boxed(state), messages))
+    }
+
+    /// The number of processes, n.
+    pub fn processes(&self) -> u64 {
+        self.shape[0]
+    }
+
+    /// How many checkpoints a process has; 0 for an absent one.
+    pub fn checkpoints(&self, process: Process) -> u64 {
+        process.place().map_or(0, |place| self.shape[1 + place])
+    }
+
+    /// How many messages a process had sent to its partner at a checkpoint, if there is such a checkpoint.
+    pub fn sent_to(&self, process: Process, checkpoint: Checkpoint, partner: Process) -> Option<Count> {
+        let entry = self.entry(process, checkpoint, partner)?;
+        Some(Count::new(u64::from(*self.sent.get(entry)?)))
+    }
+
+    /// How many messages a process had received from its partner at a checkpoint, if there is such a checkpoint.
+    pub fn received_from(&self, process: Process, checkpoint: Checkpoint, partner: Process) -> Option<Count> {
+        let entry = self.entry(process, checkpoint, partner)?;
+        Some(Count::new(u64::from(*self.received.get(entry)?)))
+    }
+
+    /// The shape: n, then sixteen counts of checkpoints.
+    pub fn shape(&self) -> &Shape {
+        &self.shape
+    }
+
+    /// The sent counters.
+    pub fn sent(&self) -> &[u32; RECOVERY_LINE_TABLE_ENTRIES] {
+        &self.sent
+    }
+
+    /// The received counters.
+    pub fn received(&self) -> &[u32; RECOVERY_LINE_TABLE_ENTRIES] {
+        &self.received
+    }
+
+    fn entry(&self, process: Process, checkpoint: Checkpoint, partner: Process) -> Option<usize> {
+        let (place, column) = (process.place()?, partner.place()?);
+        let number = checkpoint.number();
+        if number == 0 || number > self.shape[1 + place] {
+            return None;
+        }
+        let earlier = self.shape[1..=place]
+            .iter()
+            .fold(0u64, |sum, count| sum.saturating_add(*count));
+        let row = usize::try_from(earlier.checked_add(number - 1)?).ok()?;
+        row.checked_mul(RECOVERY_LINE_PROCESSES)?.checked_add(column)
+    }
+}
+
+impl fmt::Debug for Tables {
+    fn fmt(&self, f: &mut fmt::Formatter<'_>) -> fmt::Result {
+        f.debug_struct("Tables")
+            .field("shape", &self.shape)
+            .finish_non_exhaustive()
+    }
+}

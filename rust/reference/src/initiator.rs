@@ -1,0 +1,293 @@
+//! The initiator's machine (K 5.2).
+
+use crate::book::{others, Book, Row, Shape, MARK, PROCESSES};
+use crate::machine::{not_known, process_question, purpose_question, unused_is_zero};
+use crate::message::{write_in_turn, Message, Outbox, Pairs, INVITATION, OTHER, RESTART_ONLY};
+
+/// For every ordered pair "the sender's candidate's sent counter or 'not known'": entry
+/// 16 * j + p is what process j sent to process p, both from 0.
+pub type Matrix = [u32; PROCESSES * PROCESSES];
+
+#[derive(Clone, PartialEq, Debug)]
+pub struct Initiator {
+    pub n: u64,
+    /// The process whose machine this is, from 1: the initiator.
+    pub me: u64,
+    pub purpose: u64,
+    pub ended: bool,
+    pub candidate: u64,
+    /// Waits of at least one report that have begun.
+    pub rounds: u32,
+    pub awaited: [bool; PROCESSES],
+    pub matrix: Matrix,
+    /// "The initiator copies its matrix before each wait."
+    pub copy: Matrix,
+}
+
+/// What process `sender` sent to each.
+fn row(matrix: &Matrix, sender: usize) -> &Row {
+    let start = PROCESSES * sender;
+    matrix[start..start + PROCESSES]
+        .try_into()
+        .expect("a row has sixteen entries")
+}
+
+/// What each sent to process `receiver`.
+fn column(matrix: &Matrix, receiver: usize) -> Row {
+    std::array::from_fn(|sender| matrix[PROCESSES * sender + receiver])
+}
+
+/// Writes the row of process `sender`.
+fn set_row(matrix: &mut Matrix, sender: usize, entries: &Row) {
+    let start = PROCESSES * sender;
+    matrix[start..start + PROCESSES].copy_from_slice(entries);
+}
+
+/// Whether "diagonal and absent entries are zero".
+fn unused_entries_are_zero(matrix: &Matrix, n: usize) -> bool {
+    (0..n).all(|sender| unused_is_zero(row(matrix, sender), n, sender))
+        && matrix[PROCESSES * n..].iter().all(|&entry| entry == 0)
+}
+
+/// The matrix of which nothing is known yet.
+fn unknown_matrix(n: usize) -> Matrix {
+    let mut matrix = [0; PROCESSES * PROCESSES];
+    for sender in 0..n {
+        set_row(&mut matrix, sender, &not_known(n, sender));
+    }
+    matrix
+}
+
+impl Initiator {
+    /// The first step: the state after it, and the invitations.
+    pub(crate) fn begin(book: &Book, me: usize, purpose: u64) -> (Initiator, Outbox) {
+        let matrix = unknown_matrix(book.n);
+        let mut state = Initiator {
+            n: book.n as u64,
+            me: me as u64 + 1,
+            purpose,
+            ended: true,
+            candidate: 1,
+            rounds: 0,
+            awaited: [false; PROCESSES],
+            matrix,
+            copy: matrix,
+        };
+        if purpose == RESTART_ONLY {
+            // The sending of the invitations ends the initiator on checkpoint 1.
+            let invitations = state.to_everybody(INVITATION, |_| Pairs::NONE);
+            return (state, invitations);
+        }
+        state.take(book, book.counts[me]);
+        state.copy = state.matrix;
+        // "invites every other process with its own sent counter for it"
+        let own_row = book.sent(me, book.counts[me]);
+        let invitations = state.to_everybody(INVITATION, |receiver| {
+            let mut pairs = Pairs::NONE;
+            pairs.push(me, own_row[receiver]);
+            pairs
+        });
+        if book.n > 1 {
+            state.ended = false;
+            state.wait_for(&invitations);
+        }
+        (state, invitations)
+    }
+
+    /// The own process, from 0; its name has passed question 10.
+    fn own(&self) -> usize {
+        self.me as usize - 1
+    }
+
+    /// Makes this checkpoint the candidate, and its sent counters the own row.
+    fn take(&mut self, book: &Book, candidate: usize) {
+        let own = self.own();
+        self.candidate = candidate as u64;
+        set_row(&mut self.matrix, own, book.sent(own, candidate));
+    }
+
+    /// Begins a wait for those who get a message: copies the matrix and counts the round.
+    fn wait_for(&mut self, sent: &Outbox) {
+        self.copy = self.matrix;
+        self.awaited = std::array::from_fn(|process| sent[process].is_some());
+        self.rounds += 1;
+    }
+
+    fn awaits_someone(&self) -> bool {
+        self.awaited.contains(&true)
+    }
+
+    /// Question 13 of a state whose names have passed 10 and 11.
+    pub(crate) fn fits(&self, book: &Book) -> bool {
+        let own = self.own();
+        let awaited = |process: usize| self.awaited[process];
+        self.n == book.n as u64
+            && book.has(own, self.candidate)
+            && self.rounds < MARK
+            && unused_entries_are_zero(&self.matrix, book.n)
+            && unused_entries_are_zero(&self.copy, book.n)
+            // "Only participants are awaited", and "a waiting initiator awaits someone".
+            && !awaited(own)
+            && !(book.n..PROCESSES).any(awaited)
+            && (self.ended || self.awaits_someone())
+            && self.matrix.iter().zip(&self.copy).all(|(entry, copied)| entry <= copied)
+            && if self.ended && self.purpose == RESTART_ONLY {
+                self.knows_nothing(book.n)
+            } else {
+                self.kept_fits(book)
+            }
+    }
+
+    /// "Ended by purpose 2: checkpoint 1, all 'not known'", the copy too.
+    fn knows_nothing(&self, n: usize) -> bool {
+        let nothing = unknown_matrix(n);
+        self.candidate == 1 && self.matrix == nothing && self.copy == nothing
+    }
+
+    /// "Its own kept row is that candidate's sent counters; the candidate is the newest permitted
+    /// by the kept column, for a waiting initiator by the copy."
+    fn kept_fits(&self, book: &Book) -> bool {
+        let own = self.own();
+        let candidate = self.candidate as usize;
+        let permitting = if self.ended { &self.matrix } else { &self.copy };
+        row(&self.matrix, own) == book.sent(own, candidate)
+            && candidate == book.newest_permitted(own, &column(permitting, own))
+    }
+
+    /// What is left of 14, then 15 and 16, of a message that has been parsed.
+    pub(crate) fn admits(&self, message: &Message) -> Result<(), u32> {
+        let sender = message.sender as usize - 1;
+        let pairs = message.pairs.as_slice();
+        // "No pair names the participant at whose end of the strand the message is [...] written":
+        // here the sender, who is a participant unless the initiator names itself.
+        if sender != self.own() && message.pairs.names(sender) {
+            return Err(14);
+        }
+        let known = row(&self.matrix, sender);
+        let n = self.n as usize;
+        let first_report = *known == not_known(n, sender);
+        if self.ended
+            || !self.awaited[sender]
+            || message.purpose != self.purpose
+            || message.kind != OTHER
+            || (first_report && pairs.len() != n - 1)
+        {
+            return Err(15);
+        }
+        if pairs.iter().all(|&(process, counter)| counter < known[process]) {
+            Ok(())
+        } else {
+            Err(16)
+        }
+    }
+
+    /// The step on a report that has passed 14 to 16: the state after it, and what is sent.
+    pub(crate) fn step(&self, book: &Book, report: &Message) -> (Initiator, Outbox) {
+        let mut next = self.clone();
+        let sender = report.sender as usize - 1;
+        for &(process, counter) in report.pairs.as_slice() {
+            next.matrix[PROCESSES * sender + process] = counter;
+        }
+        next.awaited[sender] = false;
+        if next.awaits_someone() {
+            return (next, [None; PROCESSES]);
+        }
+        // "When all awaited reports are in, it first steps back itself in the same way."
+        let own = self.own();
+        let candidate = book.newest_permitted(own, &column(&next.matrix, own));
+        next.take(book, candidate);
+        let polls = next.polls(book.n);
+        if polls.iter().any(Option::is_some) {
+            next.wait_for(&polls);
+            return (next, polls);
+        }
+        // "If none differs, it sends every participant a termination."
+        next.ended = true;
+        let terminations = next.to_everybody(OTHER, |_| Pairs::NONE);
+        (next, terminations)
+    }
+
+    fn message(&self, kind: u32, pairs: Pairs) -> Message {
+        Message {
+            kind,
+            purpose: self.purpose,
+            sender: self.me,
+            pairs,
+        }
+    }
+
+    /// A message of this kind for every participant, with the pairs for it.
+    fn to_everybody(&self, kind: u32, pairs_for: impl Fn(usize) -> Pairs) -> Outbox {
+        let mut outbox = [None; PROCESSES];
+        for receiver in others(self.n as usize, self.own()) {
+            outbox[receiver] = Some(self.message(kind, pairs_for(receiver)));
+        }
+        outbox
+    }
+
+    /// "It polls each participant whose column differs from the copy, with the differing entries
+    /// only."
+    fn polls(&self, n: usize) -> Outbox {
+        let mut outbox = [None; PROCESSES];
+        for receiver in others(n, self.own()) {
+            let mut pairs = Pairs::NONE;
+            for sender in 0..n {
+                let entry = PROCESSES * sender + receiver;
+                if self.matrix[entry] != self.copy[entry] {
+                    pairs.push(sender, self.matrix[entry]);
+                }
+            }
+            if !pairs.is_empty() {
+                outbox[receiver] = Some(self.message(OTHER, pairs));
+            }
+        }
+        outbox
+    }
+
+    /// Questions 13 to 17 and the step, on accepted tables and names.
+    pub(crate) fn receive(&mut self, book: &Book, message: &[u8], out: &mut [u8]) -> Result<[u64; PROCESSES], u32> {
+        if !self.fits(book) {
+            return Err(13);
+        }
+        let message = Message::parse(message, book.n)?;
+        self.admits(&message)?;
+        let (next, outbox) = self.step(book, &message);
+        let lengths = write_in_turn(&outbox, out)?;
+        *self = next;
+        Ok(lengths)
+    }
+}
+
+/// A process begins a search, or with purpose 2 a bare restart: writes its invitations and answers
+/// its state and the length for each process. Questions 2, 4 to 11, 17.
+pub fn initiator_begin(
+    shape: &Shape,
+    sent: &[u32],
+    received: &[u32],
+    me: u64,
+    purpose: u64,
+    out: &mut [u8],
+) -> Result<(Initiator, [u64; PROCESSES]), u32> {
+    let book = Book::accepted(shape, sent, received)?;
+    process_question(book.n, me)?;
+    purpose_question(purpose)?;
+    let (state, invitations) = Initiator::begin(&book, me as usize - 1, purpose);
+    let lengths = write_in_turn(&invitations, out)?;
+    Ok((state, lengths))
+}
+
+/// The initiator receives a report: writes its polls or terminations, if any, and answers the
+/// length for each process. Questions 2, 4 to 11, 13 to 17.
+pub fn initiator_receive(
+    state: &mut Initiator,
+    shape: &Shape,
+    sent: &[u32],
+    received: &[u32],
+    message: &[u8],
+    out: &mut [u8],
+) -> Result<[u64; PROCESSES], u32> {
+    let book = Book::accepted(shape, sent, received)?;
+    process_question(book.n, state.me)?;
+    purpose_question(state.purpose)?;
+    state.receive(&book, message, out)
+}

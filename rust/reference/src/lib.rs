@@ -1,0 +1,27 @@
+//! The recovery line of checkpointing processes: document 01 in plain Rust.
+//!
+//! Each call puts the questions of 01 that concern it, in turn. A refusal is `Err` with the number
+//! of the first question that fails, and changes nothing lent or owned. No call relies on an
+//! earlier one: tables, states and sessions are asked anew each time.
+//!
+//! Processes and checkpoints count from 1 in all public values; absent processes have 0.
+
+#![forbid(unsafe_code)]
+
+mod book;
+mod initiator;
+mod line;
+mod machine;
+mod message;
+mod participant;
+mod restart;
+mod session;
+mod varint;
+pub mod words;
+
+pub use book::{check, read, write, Shape, BOOK_BYTES, CHECKPOINTS, ENTRIES, MARK, PROCESSES};
+pub use initiator::{initiator_begin, initiator_receive, Initiator, Matrix};
+pub use line::{find_line, pairs_at_fault, test_set};
+pub use participant::{participant_first, participant_receive, Participant, BEFORE, ENDED, SEARCHING};
+pub use restart::{move_line, restart_order, Order};
+pub use session::{search, session_start, session_turn, Searched, Session};

@@ -1,0 +1,81 @@
+//! Restart orders and the move (K 5.4).
+
+use crate::book::{Book, Row, Shape, PROCESSES};
+use crate::line::line_of;
+use crate::machine::purpose_question;
+use crate::message::RESTART_ONLY;
+
+/// The purpose that only advances the line: nothing newer goes.
+const ADVANCE_ONLY: u64 = 1;
+
+/// "A restart order names, for each process, the checkpoint restarted from, numbered as before the
+/// move, and how many go before and after it"; absent processes have 0.
+#[derive(Clone, PartialEq, Debug)]
+pub struct Order {
+    pub from: [u64; PROCESSES],
+    pub before: [u64; PROCESSES],
+    pub after: [u64; PROCESSES],
+}
+
+/// The order for accepted tables and a purpose that there is.
+fn order_of(book: &Book, purpose: u64) -> Order {
+    let restarted = if purpose == RESTART_ONLY {
+        [1; PROCESSES]
+    } else {
+        line_of(book)
+    };
+    let zeros = [0; PROCESSES];
+    let mut order = Order {
+        from: zeros,
+        before: zeros,
+        after: zeros,
+    };
+    for (process, &from) in restarted.iter().enumerate().take(book.n) {
+        order.from[process] = from as u64;
+        order.before[process] = from as u64 - 1;
+        if purpose != ADVANCE_ONLY {
+            order.after[process] = (book.counts[process] - from) as u64;
+        }
+    }
+    order
+}
+
+/// The restart order, without a move. Questions 2, 4 to 9, 11.
+pub fn restart_order(shape: &Shape, sent: &[u32], received: &[u32], purpose: u64) -> Result<Order, u32> {
+    let book = Book::accepted(shape, sent, received)?;
+    purpose_question(purpose)?;
+    Ok(order_of(&book, purpose))
+}
+
+/// Moves the line in the tables and answers the restart order. Questions 2, 4 to 9, 11.
+pub fn move_line(shape: &mut Shape, sent: &mut [u32], received: &mut [u32], purpose: u64) -> Result<Order, u32> {
+    let order = restart_order(shape, sent, received, purpose)?;
+    keep_only(shape, &order, sent);
+    keep_only(shape, &order, received);
+    for process in 0..shape.n as usize {
+        shape.counts[process] -= order.before[process] + order.after[process];
+    }
+    Ok(order)
+}
+
+/// Keeps in one table the rows that do not go, one after another from the first row on, "each kept
+/// checkpoint's counters" lowered "by those that its own process's line checkpoint held". No kept
+/// row is written before its place is read: rows only go.
+fn keep_only(shape: &Shape, order: &Order, table: &mut [u32]) {
+    let mut read_from = 0;
+    let mut write_to = 0;
+    for process in 0..shape.n as usize {
+        let end = read_from + PROCESSES * shape.counts[process] as usize;
+        let first_kept = read_from + PROCESSES * order.before[process] as usize;
+        let last_kept = end - PROCESSES * order.after[process] as usize;
+        let base: Row = table[first_kept..first_kept + PROCESSES]
+            .try_into()
+            .expect("a row has sixteen entries");
+        for entry in first_kept..last_kept {
+            table[write_to] = table[entry] - base[entry % PROCESSES];
+            write_to += 1;
+        }
+        read_from = end;
+    }
+    table[write_to..].fill(0);
+}

@@ -1,0 +1,42 @@
+//! Numbers of the book and of messages: "written in groups of seven bits, lowest group first, one
+//! group a byte; the byte's top bit is set when another group follows".
+
+const MOST_GROUPS: usize = 5;
+
+/// Reads the number at `at` and moves `at` behind it; `None` where question 3 says no.
+pub(crate) fn read(bytes: &[u8], at: &mut usize) -> Option<u32> {
+    let mut value = 0u64;
+    for group in 0..MOST_GROUPS {
+        let byte = *bytes.get(*at)?;
+        *at += 1;
+        value |= u64::from(byte & 0x7f) << (7 * group);
+        if byte & 0x80 == 0 {
+            // "Only the shortest form": a last group of zero could be left out.
+            let shortest = byte != 0 || group == 0;
+            return u32::try_from(value).ok().filter(|_| shortest);
+        }
+    }
+    None
+}
+
+/// The number of bytes of `value` when written.
+pub(crate) fn size(value: u32) -> usize {
+    match value {
+        0..=0x7f => 1,
+        0x80..=0x3fff => 2,
+        0x4000..=0x1f_ffff => 3,
+        0x20_0000..=0xfff_ffff => 4,
+        _ => 5,
+    }
+}
+
+/// Writes `value` at `at` and moves `at` behind it; the caller has seen that it fits.
+pub(crate) fn write(mut value: u32, out: &mut [u8], at: &mut usize) {
+    while value > 0x7f {
+        out[*at] = (value & 0x7f) as u8 | 0x80;
+        *at += 1;
+        value >>= 7;
+    }
+    out[*at] = value as u8;
+    *at += 1;
+}

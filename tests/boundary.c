@@ -1,0 +1,473 @@
+/*
+ * What C can do at the boundary, legally: null pointers with length 0, slices of words and tables one element too short or
+ * too long, buffers of the exact size and one byte less, and memory that ends where a slice does.
+ *
+ *     boundary heap|end|start
+ *
+ * Where slices are lent in blocks of their own, these are of the heap, or end or start at a page that cannot be touched.
+ */
+#include "recovery_line.h"
+
+#include <stdbool.h>
+#include <stdio.h>
+#include <stdlib.h>
+#include <string.h>
+#include <sys/mman.h>
+#include <unistd.h>
+
+/* Every slice that some call is lent. Process 1 begins a search with purpose 3; 2 is invited and then reports. */
+enum slice { BYTES, SHAPE, SENT, RECEIVED, OUT, SET, PAIR, LINE, PARTICIPANT, INVITATION, INITIATOR, REPORT, LENGTHS, SESSION,
+             STRANDS, ORDER, LENGTH, PASSED, ROUNDS, MESSAGES, SLICES };
+#define OF(slice) (1u << (slice))
+#define TABLES (OF(SHAPE) | OF(SENT) | OF(RECEIVED))
+
+enum { PURPOSE = RECOVERY_LINE_ADVANCE_AND_RESTART, GUARD = 64, SLOT = RECOVERY_LINE_MESSAGE_BYTES(3) };
+
+struct kind {
+    const char *name;
+    size_t size, elements;
+    bool words;
+};
+static const struct kind kinds[SLICES] = {
+    {"bytes", 1, 28, false},
+    {"shape", 8, RECOVERY_LINE_SHAPE_WORDS, true},
+    {"sent", 4, RECOVERY_LINE_TABLE_ENTRIES, false},
+    {"received", 4, RECOVERY_LINE_TABLE_ENTRIES, false},
+    {"out", 1, 64, false},
+    {"set", 8, RECOVERY_LINE_SET_WORDS, true},
+    {"pair", 8, RECOVERY_LINE_PAIR_WORDS, true},
+    {"line", 8, RECOVERY_LINE_SET_WORDS, true},
+    {"participant's state", 8, RECOVERY_LINE_PARTICIPANT_WORDS, true},
+    {"invitation", 1, 6, false},
+    {"initiator's state", 8, RECOVERY_LINE_INITIATOR_WORDS, true},
+    {"report", 1, 8, false},
+    {"lengths", 8, RECOVERY_LINE_LENGTHS_WORDS, true},
+    {"session", 8, RECOVERY_LINE_SESSION_WORDS, true},
+    {"strands", 1, RECOVERY_LINE_STRAND_BYTES(3), false},
+    {"order", 8, RECOVERY_LINE_ORDER_WORDS, true},
+    {"length", 8, 1, false},
+    {"passed", 8, 1, false},
+    {"rounds", 8, 1, false},
+    {"messages", 8, 1, false},
+};
+
+/* K's example 1, and a book of one process. */
+static const uint8_t book[] = {3, 2, 0, 0, 0, 0, 0, 0, 4, 5, 2, 0, 0, 0, 0, 3, 0, 0, 0, 2, 0, 0, 0, 0, 7, 0, 0, 0};
+static const uint8_t lonely_book[] = {1, 3};
+static const uint8_t invitation[] = {1, PURPOSE, 1, 1, 1, 0};
+static const uint8_t report[] = {2, PURPOSE, 2, 2, 1, 3, 3, 0};
+static const uint8_t other_report[] = {2, PURPOSE, 3, 2, 1, 7, 2, 0};
+
+/* What is lent now: where, and how many elements. */
+static struct {
+    void *start;
+    size_t elements;
+} lent[SLICES];
+
+/* All slices with guard bytes around each, and as they stand before each call. */
+static uint8_t *arena, *prepared;
+static size_t arena_size, place[SLICES];
+
+#define U8(slice) (uint8_t *)lent[slice].start, lent[slice].elements
+#define U32(slice) (uint32_t *)lent[slice].start, lent[slice].elements
+#define U64(slice) (uint64_t *)lent[slice].start, lent[slice].elements
+#define NUMBER(slice) (uint64_t *)lent[slice].start
+#define LENT_TABLES U64(SHAPE), U32(SENT), U32(RECEIVED)
+
+static uint32_t call_read(void) { return recovery_line_read(U8(BYTES), LENT_TABLES); }
+static uint32_t call_check(void) { return recovery_line_check(LENT_TABLES); }
+static uint32_t call_write(void) { return recovery_line_write(LENT_TABLES, U8(OUT), NUMBER(LENGTH)); }
+static uint32_t call_test_set(void) { return recovery_line_test_set(LENT_TABLES, U64(SET), U64(PAIR)); }
+static uint32_t call_find(void) { return recovery_line_find(LENT_TABLES, U64(LINE), NUMBER(PASSED)); }
+static uint32_t call_participant_first(void) {
+    return recovery_line_participant_first(LENT_TABLES, 2, 1, PURPOSE, U64(PARTICIPANT));
+}
+static uint32_t call_participant_receive(void) {
+    return recovery_line_participant_receive(U64(PARTICIPANT), LENT_TABLES, U8(INVITATION), U8(OUT), U64(LENGTHS));
+}
+static uint32_t call_initiator_begin(void) {
+    return recovery_line_initiator_begin(LENT_TABLES, 1, PURPOSE, U64(INITIATOR), U8(OUT), U64(LENGTHS));
+}
+static uint32_t call_initiator_receive(void) {
+    return recovery_line_initiator_receive(U64(INITIATOR), LENT_TABLES, U8(REPORT), U8(OUT), U64(LENGTHS));
+}
+static uint32_t call_session_start(void) {
+    return recovery_line_session_start(LENT_TABLES, 1, PURPOSE, U64(SESSION), U8(STRANDS));
+}
+static uint32_t call_session_turn(void) {
+    return recovery_line_session_turn(U64(SESSION), LENT_TABLES, 3, U8(STRANDS));
+}
+static uint32_t call_search(void) {
+    return recovery_line_search(LENT_TABLES, 1, PURPOSE, U64(LINE), NUMBER(PASSED), NUMBER(ROUNDS), NUMBER(MESSAGES));
+}
+static uint32_t call_move(void) { return recovery_line_move(LENT_TABLES, PURPOSE, U64(ORDER)); }
+static uint32_t call_restart_order(void) { return recovery_line_restart_order(LENT_TABLES, PURPOSE, U64(ORDER)); }
+
+/* A call, what it is lent to read and to write, and which part of its buffer of bytes it writes when it accepts. */
+struct call {
+    const char *name;
+    uint32_t (*run)(void);
+    unsigned reads, writes;
+    size_t from, to;
+};
+enum { READ, CHECK, WRITE, TEST_SET, FIND, PARTICIPANT_FIRST, PARTICIPANT_RECEIVE, INITIATOR_BEGIN, INITIATOR_RECEIVE,
+       SESSION_START, SESSION_TURN, SEARCH, MOVE, RESTART_ORDER, CALLS };
+static const struct call calls[CALLS] = {
+    {"read", call_read, OF(BYTES), TABLES, 0, 0},
+    {"check", call_check, TABLES, 0, 0, 0},
+    {"write", call_write, TABLES, OF(OUT) | OF(LENGTH), 0, sizeof book},
+    {"test_set", call_test_set, TABLES | OF(SET), OF(PAIR), 0, 0},
+    {"find", call_find, TABLES, OF(LINE) | OF(PASSED), 0, 0},
+    {"participant_first", call_participant_first, TABLES, OF(PARTICIPANT), 0, 0},
+    {"participant_receive", call_participant_receive, TABLES | OF(INVITATION), OF(PARTICIPANT) | OF(OUT) | OF(LENGTHS), 0,
+     sizeof report},
+    {"initiator_begin", call_initiator_begin, TABLES, OF(INITIATOR) | OF(OUT) | OF(LENGTHS), 0, 2 * sizeof invitation},
+    {"initiator_receive", call_initiator_receive, TABLES | OF(REPORT), OF(INITIATOR) | OF(OUT) | OF(LENGTHS), 0, 0},
+    {"session_start", call_session_start, TABLES, OF(SESSION) | OF(STRANDS), 0, SLOT + sizeof invitation},
+    {"session_turn", call_session_turn, TABLES, OF(SESSION) | OF(STRANDS), SLOT, SLOT + sizeof report},
+    {"search", call_search, TABLES, OF(LINE) | OF(PASSED) | OF(ROUNDS) | OF(MESSAGES), 0, 0},
+    {"move", call_move, 0, TABLES | OF(ORDER), 0, 0},
+    {"restart_order", call_restart_order, TABLES, OF(ORDER), 0, 0},
+};
+
+static bool group_failed, any_failed;
+
+static void expect(bool holds, const char *call, const char *slice, const char *what) {
+    if (!holds) {
+        printf("boundary:   %s, %s: %s\n", call, slice, what);
+        group_failed = true;
+    }
+}
+
+static void end_group(const char *what) {
+    printf("boundary: %s: %s\n", group_failed ? "FAILED" : "ok", what);
+    any_failed |= group_failed;
+    group_failed = false;
+}
+
+/* Lends every slice in the arena, with its right length, as prepared. */
+static void lend_all(void) {
+    memcpy(arena, prepared, arena_size);
+    for (int s = 0; s < SLICES; s++) {
+        lent[s].start = arena + place[s];
+        lent[s].elements = kinds[s].elements;
+    }
+}
+
+static void lend_nothing(enum slice s) {
+    lent[s].start = NULL;
+    lent[s].elements = 0;
+}
+
+static bool unchanged(void) { return memcmp(arena, prepared, arena_size) == 0; }
+
+/* Whether a call has kept to what it writes: all else is unchanged, with the guard bytes and the spare elements. */
+static bool rest_unchanged(const struct call *call) {
+    for (int s = 0; s < SLICES; s++) {
+        bool part = s == OUT || s == STRANDS;
+        size_t from = part ? call->from : 0, to = part ? call->to : kinds[s].elements * kinds[s].size;
+        if (call->writes & OF(s)) {
+            memcpy(arena + place[s] + from, prepared + place[s] + from, to - from);
+        }
+    }
+    return unchanged();
+}
+
+/* Finds each slice its place: guard bytes, the slice, one element to spare. */
+static void lay_out(void) {
+    size_t at = GUARD;
+    for (int s = 0; s < SLICES; s++) {
+        place[s] = at;
+        at += (kinds[s].elements + 1) * kinds[s].size + GUARD;
+        at += (8 - at % 8) % 8;
+    }
+    arena_size = at;
+    arena = (uint8_t *)malloc(at);
+    prepared = (uint8_t *)malloc(at);
+    if (arena == NULL || prepared == NULL) {
+        exit(2);
+    }
+    for (size_t i = 0; i < at; i++) {
+        prepared[i] = (uint8_t)(0xA5 ^ i % 251);
+    }
+}
+
+static void put(enum slice s, const void *content, size_t size) { memcpy(arena + place[s], content, size); }
+
+/* Fills what the calls read: tables, a set, messages and states; all else keeps its pattern. */
+static void prepare(void) {
+    const uint64_t set[RECOVERY_LINE_SET_WORDS] = {2, 2, 2};
+    lay_out();
+    lend_all();
+    put(BYTES, book, sizeof book);
+    put(SET, set, sizeof set);
+    put(INVITATION, invitation, sizeof invitation);
+    put(REPORT, report, sizeof report);
+    expect(call_read() == 0, "read", "-", "the book is accepted");
+    expect(call_participant_first() == 0, "participant_first", "-", "a state is made");
+    expect(call_initiator_begin() == 0, "initiator_begin", "-", "a state is made");
+    expect(call_session_start() == 0, "session_start", "-", "a session is made");
+    memcpy(prepared, arena, arena_size);
+    end_group("a book is read, and machines and a session are begun on it");
+}
+
+static void accepts_and_keeps_to_its_slices(void) {
+    for (int c = 0; c < CALLS; c++) {
+        lend_all();
+        expect(calls[c].run() == 0, calls[c].name, "-", "is accepted");
+        expect(rest_unchanged(&calls[c]), calls[c].name, "-", "changes only what it writes");
+    }
+    end_group("each call accepts, and changes nothing but what it writes");
+}
+
+/* Runs a call that must be refused and leave everything as it was. */
+static void refused(const struct call *call, uint32_t answer, const char *slice, const char *what) {
+    expect(call->run() == answer, call->name, slice, what);
+    expect(unchanged(), call->name, slice, "a refused call changes nothing");
+}
+
+/* Lends a slice with another number of elements, or none at a null pointer. */
+static void lend_with(enum slice s, size_t elements) {
+    lent[s].elements = elements;
+    if (elements == 0) {
+        lent[s].start = NULL;
+    }
+}
+
+static void wrong_words_come_first(void) {
+    for (int c = 0; c < CALLS; c++) {
+        for (int s = 0; s < SLICES; s++) {
+            const size_t lengths[] = {0, kinds[s].elements - 1, kinds[s].elements + 1};
+            if (!kinds[s].words || !((calls[c].reads | calls[c].writes) & OF(s))) {
+                continue;
+            }
+            for (int i = 0; i < 3; i++) {
+                lend_all();
+                lend_with((enum slice)s, lengths[i]);
+                refused(&calls[c], RECOVERY_LINE_WRONG_LENGTH, kinds[s].name, "a wrong length is refused");
+                lend_nothing(SENT);
+                lend_nothing(OUT);
+                lend_nothing(STRANDS);
+                lend_nothing(BYTES);
+                refused(&calls[c], RECOVERY_LINE_WRONG_LENGTH, kinds[s].name, "a wrong length comes first");
+            }
+        }
+    }
+    end_group("a slice of words that is missing, or one too short or too long, is refused first");
+}
+
+static void wrong_tables_come_second(void) {
+    const enum slice tables[] = {SENT, RECEIVED};
+    const size_t lengths[] = {0, RECOVERY_LINE_TABLE_ENTRIES - 1, RECOVERY_LINE_TABLE_ENTRIES + 1};
+    for (int c = 0; c < CALLS; c++) {
+        for (int t = 0; t < 2; t++) {
+            for (int i = 0; i < 3; i++) {
+                lend_all();
+                lend_with(tables[t], lengths[i]);
+                refused(&calls[c], 2, kinds[tables[t]].name, "a table of another length is refused");
+                lend_nothing(OUT);
+                lend_nothing(STRANDS);
+                lend_nothing(BYTES);
+                refused(&calls[c], 2, kinds[tables[t]].name, "a table of another length comes first");
+            }
+        }
+    }
+    end_group("a table that is missing, or one entry too short or too long, is refused by question 2");
+}
+
+static void nothing_at_all(void) {
+    for (int c = 0; c < CALLS; c++) {
+        lend_all();
+        for (int s = 0; s < LENGTH; s++) {
+            lend_nothing((enum slice)s);
+        }
+        refused(&calls[c], RECOVERY_LINE_WRONG_LENGTH, "all", "null everywhere is refused");
+    }
+    end_group("null pointers with length 0 everywhere are refused");
+}
+
+/* Calls with one slice of bytes at a null pointer. */
+static void no_bytes(void) {
+    const struct {
+        int call;
+        enum slice slice;
+        uint32_t answer;
+    } cases[] = {{READ, BYTES, 3}, {WRITE, OUT, 17}, {PARTICIPANT_RECEIVE, INVITATION, 14}, {PARTICIPANT_RECEIVE, OUT, 17},
+                 {INITIATOR_BEGIN, OUT, 17}, {INITIATOR_RECEIVE, REPORT, 14}, {SESSION_START, STRANDS, 17},
+                 {SESSION_TURN, STRANDS, 13}};
+    for (size_t i = 0; i < sizeof cases / sizeof cases[0]; i++) {
+        lend_all();
+        lend_nothing(cases[i].slice);
+        refused(&calls[cases[i].call], cases[i].answer, kinds[cases[i].slice].name, "null is refused by its question");
+    }
+    lend_all();
+    lend_nothing(OUT);
+    expect(call_initiator_receive() == 0, "initiator_receive", "out", "null suffices where nothing is written");
+    expect(rest_unchanged(&calls[INITIATOR_RECEIVE]), "initiator_receive", "out", "nothing is written");
+    end_group("null pointers with length 0 for bytes are refused where bytes are needed");
+}
+
+static void no_bytes_needed(void) {
+    lend_all();
+    put(BYTES, lonely_book, sizeof lonely_book);
+    lent[BYTES].elements = sizeof lonely_book;
+    expect(call_read() == 0, "read", "bytes", "one process is accepted");
+    lend_nothing(OUT);
+    lend_nothing(STRANDS);
+    expect(call_initiator_begin() == 0, "initiator_begin", "out", "null suffices for one process");
+    expect(call_session_start() == 0, "session_start", "strands", "null suffices for one process");
+    expect(call_session_turn() == 10, "session_turn", "strands", "no other process has a turn");
+    expect(call_search() == 0, "search", "-", "one process is accepted");
+    end_group("one process needs no bytes for messages");
+}
+
+/* Blocks: each slice by itself, in memory that ends with it or starts with it. */
+
+static enum { HEAP, END, START } blocks;
+static struct {
+    void *mapped;
+    size_t size;
+} block[SLICES];
+
+/* Memory of that size; beside it are pages that cannot be touched. */
+static void *map_block(enum slice s, size_t size) {
+    size_t page = (size_t)sysconf(_SC_PAGESIZE), inside = (size + page - 1) / page * page;
+    uint8_t *start = (uint8_t *)mmap(NULL, inside + 2 * page, PROT_NONE, MAP_PRIVATE | MAP_ANONYMOUS, -1, 0);
+    if (start == MAP_FAILED || (inside != 0 && mprotect(start + page, inside, PROT_READ | PROT_WRITE) != 0)) {
+        exit(2);
+    }
+    block[s].mapped = start;
+    block[s].size = inside + 2 * page;
+    return start + page + (blocks == END ? inside - size : 0);
+}
+
+static void give_back(enum slice s) {
+    if (block[s].mapped == NULL) {
+        return;
+    }
+    if (blocks == HEAP) {
+        free(block[s].mapped);
+    } else {
+        munmap(block[s].mapped, block[s].size);
+    }
+    block[s].mapped = NULL;
+}
+
+/* Lends a slice of that many elements in a block of its own, with what was prepared. */
+static void lend_block(enum slice s, size_t elements) {
+    size_t size = elements * kinds[s].size;
+    give_back(s);
+    if (blocks == HEAP) {
+        block[s].mapped = lent[s].start = malloc(size);
+    } else {
+        lent[s].start = map_block(s, size);
+    }
+    if (size != 0) {
+        memcpy(lent[s].start, prepared + place[s], size);
+    }
+    lent[s].elements = elements;
+}
+
+static void lend_blocks(void) {
+    for (int s = 0; s < SLICES; s++) {
+        lend_block((enum slice)s, kinds[s].elements);
+    }
+}
+
+static void give_all_back(void) {
+    for (int s = 0; s < SLICES; s++) {
+        give_back((enum slice)s);
+    }
+}
+
+static bool block_unchanged(enum slice s) {
+    return lent[s].elements == 0 || memcmp(lent[s].start, prepared + place[s], lent[s].elements * kinds[s].size) == 0;
+}
+
+/* Each call in blocks of exact sizes does what it does in the arena. */
+static void exact_blocks(void) {
+    for (int c = 0; c < CALLS; c++) {
+        lend_all();
+        uint32_t answer = calls[c].run();
+        lend_blocks();
+        expect(calls[c].run() == answer, calls[c].name, "-", "answers the same in blocks of their own");
+        for (int s = 0; s < SLICES; s++) {
+            size_t size = kinds[s].elements * kinds[s].size;
+            expect(memcmp(lent[s].start, arena + place[s], size) == 0, calls[c].name, kinds[s].name, "holds the same");
+        }
+    }
+    end_group("each call does the same where every slice is a block of its own");
+}
+
+/* A call with a buffer of exactly the bytes that it needs, and with fewer. */
+static void exact_buffer(const struct call *call, enum slice s, size_t needed, uint32_t answer) {
+    for (size_t elements = 0; elements <= needed; elements++) {
+        lend_blocks();
+        lend_block(s, elements);
+        bool enough = elements == needed;
+        expect(call->run() == (enough ? 0 : answer), call->name, kinds[s].name, "just the exact length is accepted");
+        for (int other = 0; other < SLICES && !enough; other++) {
+            expect(block_unchanged((enum slice)other), call->name, kinds[other].name, "a refused call changes nothing");
+        }
+    }
+}
+
+static void exact_buffers(void) {
+    exact_buffer(&calls[READ], BYTES, sizeof book, 3);
+    exact_buffer(&calls[WRITE], OUT, sizeof book, 17);
+    exact_buffer(&calls[PARTICIPANT_RECEIVE], INVITATION, sizeof invitation, 14);
+    exact_buffer(&calls[PARTICIPANT_RECEIVE], OUT, sizeof report, 17);
+    exact_buffer(&calls[INITIATOR_BEGIN], OUT, 2 * sizeof invitation, 17);
+    exact_buffer(&calls[INITIATOR_RECEIVE], REPORT, sizeof report, 14);
+    exact_buffer(&calls[SESSION_START], STRANDS, SLOT + sizeof invitation, 17);
+    end_group("buffers of the exact size are accepted, and all shorter ones refused");
+}
+
+/* The last report is answered with two polls of six bytes. */
+static void exact_polls(void) {
+    lend_all();
+    expect(call_initiator_receive() == 0, "initiator_receive", "report", "the first report is accepted");
+    put(REPORT, other_report, sizeof other_report);
+    memcpy(prepared, arena, arena_size);
+    exact_buffer(&calls[INITIATOR_RECEIVE], OUT, 12, 17);
+    end_group("polls fit a buffer of their exact size, and no shorter one");
+}
+
+/* A report of eight bytes goes where an invitation of six was, in the last slot. */
+static void exact_strands(void) {
+    for (size_t elements = SLOT + sizeof invitation - 1; elements <= SLOT + sizeof report; elements++) {
+        uint32_t answer = elements < SLOT + sizeof invitation ? 13 : elements < SLOT + sizeof report ? 17 : 0;
+        lend_blocks();
+        lend_block(STRANDS, elements);
+        expect(call_session_turn() == answer, "session_turn", "strands", "needs room for what waits and for the reply");
+        if (answer != 0) {
+            expect(block_unchanged(STRANDS) && block_unchanged(SESSION), "session_turn", "strands", "is unchanged");
+        }
+    }
+    end_group("a turn's reply fits strands of their exact size, and no shorter ones");
+}
+
+int main(int argc, char **argv) {
+    const char *kind = argc == 2 ? argv[1] : "";
+    blocks = strcmp(kind, "end") == 0 ? END : strcmp(kind, "start") == 0 ? START : HEAP;
+    if (blocks == HEAP && strcmp(kind, "heap") != 0) {
+        fprintf(stderr, "usage: boundary heap|end|start\n");
+        return 2;
+    }
+    setvbuf(stdout, NULL, _IOLBF, 0); /* what was said is not lost with a crash */
+    prepare();
+    accepts_and_keeps_to_its_slices();
+    wrong_words_come_first();
+    wrong_tables_come_second();
+    nothing_at_all();
+    no_bytes();
+    no_bytes_needed();
+    exact_blocks();
+    exact_buffers();
+    exact_strands();
+    exact_polls();
+    give_all_back();
+    free(arena);
+    free(prepared);
+    return any_failed ? 1 : 0;
+}

@@ -1,0 +1,317 @@
+/*
+ * Measures how many bytes of stack each call uses: it runs the call on a stack of its own that was painted before, and looks
+ * how far down the paint is gone. Prints a line for each function: its name, and the most that any of its calls took.
+ */
+#define _GNU_SOURCE
+#include "recovery_line.h"
+
+#include <stdbool.h>
+#include <stdio.h>
+#include <stdlib.h>
+#include <string.h>
+#include <sys/mman.h>
+#include <ucontext.h>
+#include <unistd.h>
+
+enum { PROCESSES = RECOVERY_LINE_PROCESSES, ENTRIES = RECOVERY_LINE_TABLE_ENTRIES, STACK = 1 << 20 };
+#define ARRAY(a) (a), sizeof(a) / sizeof((a)[0])
+#define TABLES ARRAY(shape), ARRAY(sent), ARRAY(received)
+
+/* What the calls are lent, and what they are told. */
+static uint8_t book[RECOVERY_LINE_BOOK_BYTES], out[RECOVERY_LINE_STRAND_BYTES(PROCESSES)];
+static uint8_t strands[RECOVERY_LINE_STRAND_BYTES(PROCESSES)];
+static uint64_t shape[RECOVERY_LINE_SHAPE_WORDS], set[RECOVERY_LINE_SET_WORDS], pair[RECOVERY_LINE_PAIR_WORDS];
+static uint64_t line[RECOVERY_LINE_SET_WORDS], order[RECOVERY_LINE_ORDER_WORDS], lengths[RECOVERY_LINE_LENGTHS_WORDS];
+static uint64_t participants[PROCESSES][RECOVERY_LINE_PARTICIPANT_WORDS], initiator[RECOVERY_LINE_INITIATOR_WORDS];
+static uint64_t session[RECOVERY_LINE_SESSION_WORDS];
+static uint32_t sent[ENTRIES], received[ENTRIES];
+static uint64_t book_length, passed, rounds, messages, first, me, purpose;
+static const uint8_t *message;
+static size_t message_length;
+
+static uint32_t call_read(void) { return recovery_line_read(book, (size_t)book_length, TABLES); }
+static uint32_t call_check(void) { return recovery_line_check(TABLES); }
+static uint32_t call_write(void) { return recovery_line_write(TABLES, ARRAY(book), &book_length); }
+static uint32_t call_test_set(void) { return recovery_line_test_set(TABLES, ARRAY(set), ARRAY(pair)); }
+static uint32_t call_find(void) { return recovery_line_find(TABLES, ARRAY(line), &passed); }
+static uint32_t call_participant_first(void) {
+    return recovery_line_participant_first(TABLES, me, first, purpose, ARRAY(participants[me - 1]));
+}
+static uint32_t call_participant_receive(void) {
+    return recovery_line_participant_receive(ARRAY(participants[me - 1]), TABLES, message, message_length, ARRAY(out),
+                                             ARRAY(lengths));
+}
+static uint32_t call_initiator_begin(void) {
+    return recovery_line_initiator_begin(TABLES, first, purpose, ARRAY(initiator), ARRAY(out), ARRAY(lengths));
+}
+static uint32_t call_initiator_receive(void) {
+    return recovery_line_initiator_receive(ARRAY(initiator), TABLES, message, message_length, ARRAY(out), ARRAY(lengths));
+}
+static uint32_t call_session_start(void) {
+    return recovery_line_session_start(TABLES, first, purpose, ARRAY(session), ARRAY(strands));
+}
+static uint32_t call_session_turn(void) {
+    return recovery_line_session_turn(ARRAY(session), TABLES, me, ARRAY(strands));
+}
+static uint32_t call_search(void) {
+    return recovery_line_search(TABLES, first, purpose, ARRAY(line), &passed, &rounds, &messages);
+}
+static uint32_t call_move(void) { return recovery_line_move(TABLES, purpose, ARRAY(order)); }
+static uint32_t call_restart_order(void) { return recovery_line_restart_order(TABLES, purpose, ARRAY(order)); }
+
+enum call { READ, CHECK, WRITE, TEST_SET, FIND, PARTICIPANT_FIRST, PARTICIPANT_RECEIVE, INITIATOR_BEGIN, INITIATOR_RECEIVE,
+            SESSION_START, SESSION_TURN, SEARCH, MOVE, RESTART_ORDER, CALLS };
+static struct {
+    const char *name;
+    uint32_t (*run)(void);
+    size_t most;
+    unsigned long times;
+} calls[CALLS] = {
+    {"read", call_read, 0, 0},
+    {"check", call_check, 0, 0},
+    {"write", call_write, 0, 0},
+    {"test_set", call_test_set, 0, 0},
+    {"find", call_find, 0, 0},
+    {"participant_first", call_participant_first, 0, 0},
+    {"participant_receive", call_participant_receive, 0, 0},
+    {"initiator_begin", call_initiator_begin, 0, 0},
+    {"initiator_receive", call_initiator_receive, 0, 0},
+    {"session_start", call_session_start, 0, 0},
+    {"session_turn", call_session_turn, 0, 0},
+    {"search", call_search, 0, 0},
+    {"move", call_move, 0, 0},
+    {"restart_order", call_restart_order, 0, 0},
+};
+
+/* The painted stack; below it lies a page that cannot be touched. */
+static uint64_t *stack;
+static uint64_t paint;
+static ucontext_t caller;
+static uint32_t (*running)(void);
+static uint32_t answer;
+static uint8_t *top;
+
+static void stop(const char *why) {
+    fprintf(stderr, "stack: %s\n", why);
+    exit(2);
+}
+
+static void make_stack(void) {
+    size_t page = (size_t)sysconf(_SC_PAGESIZE);
+    uint8_t *start = (uint8_t *)mmap(NULL, STACK + page, PROT_READ | PROT_WRITE, MAP_PRIVATE | MAP_ANONYMOUS, -1, 0);
+    if (start == MAP_FAILED || mprotect(start, page, PROT_NONE) != 0) {
+        stop("no memory for a stack");
+    }
+    stack = (uint64_t *)(void *)(start + page);
+}
+
+static void paint_from(size_t word) {
+    for (size_t i = word; i < STACK / sizeof *stack; i++) {
+        stack[i] = paint;
+    }
+}
+
+static void enter(void) {
+    top = (uint8_t *)__builtin_frame_address(0);
+    answer = running();
+}
+
+/* Runs a call on the painted stack; how far down it has written, in bytes from where it was called. */
+static size_t run_painted(uint32_t (*run)(void)) {
+    ucontext_t painted;
+    if (getcontext(&painted) != 0) {
+        stop("no context");
+    }
+    painted.uc_stack.ss_sp = stack;
+    painted.uc_stack.ss_size = STACK;
+    painted.uc_link = &caller;
+    makecontext(&painted, enter, 0);
+    running = run;
+    if (swapcontext(&caller, &painted) != 0) {
+        stop("no change of context");
+    }
+    size_t lowest = 0;
+    while (stack[lowest] == paint) {
+        lowest++;
+    }
+    paint_from(lowest);
+    return (size_t)(top - (uint8_t *)&stack[lowest]);
+}
+
+/* Makes a call, measured, and gives its answer. */
+static uint32_t measure(enum call call) {
+    size_t used = run_painted(calls[call].run);
+    calls[call].times++;
+    if (used > calls[call].most) {
+        calls[call].most = used;
+    }
+    return answer;
+}
+
+static void accepted(enum call call) {
+    if (measure(call) != RECOVERY_LINE_ACCEPTED) {
+        fprintf(stderr, "stack: %s is refused by %u\n", calls[call].name, (unsigned)answer);
+        exit(2);
+    }
+}
+
+/* Tables of n processes with that many checkpoints each, whose counters rise by `step`. Where they fall, each checkpoint has
+ * received more from the process before than that one's checkpoint of the same number sent: all go back to the oldest. */
+static void make_tables(unsigned n, unsigned each, uint32_t step, bool fall) {
+    memset(shape, 0, sizeof shape);
+    memset(sent, 0, sizeof sent);
+    memset(received, 0, sizeof received);
+    shape[0] = n;
+    for (unsigned j = 0; j < n; j++) {
+        shape[1 + j] = each;
+        for (unsigned r = 1; r < each; r++) {
+            for (unsigned p = 0; p < n; p++) {
+                unsigned entry = (j * each + r) * PROCESSES + p;
+                if (p != j) {
+                    sent[entry] = r * step;
+                    received[entry] = fall && p == (j + n - 1) % n ? r * step + 1 : r * step / 2;
+                }
+            }
+        }
+    }
+}
+
+/* The calls on books and sets, refused ones too. */
+static void measure_books(void) {
+    accepted(CHECK);
+    accepted(WRITE);
+    accepted(READ);
+    book_length--;
+    measure(READ);
+    book_length++;
+    for (unsigned p = 0; p < PROCESSES; p++) {
+        set[p] = shape[1 + p];
+    }
+    accepted(TEST_SET);
+    accepted(FIND);
+    memcpy(set, line, sizeof set);
+    accepted(TEST_SET);
+    set[0] = 0;
+    measure(TEST_SET);
+}
+
+static void measure_moves(void) {
+    for (purpose = 1; purpose <= 4; purpose++) {
+        measure(RESTART_ORDER);
+        measure(MOVE);
+        accepted(READ);
+    }
+}
+
+/* A session's turns to its end, lowest or highest waiting strand first, with a refused turn before each. */
+static void measure_session(bool highest) {
+    const uint64_t *waiting = session + 3 + RECOVERY_LINE_INITIATOR_WORDS + PROCESSES * RECOVERY_LINE_PARTICIPANT_WORDS;
+    accepted(SESSION_START);
+    for (;;) {
+        unsigned chosen = 0;
+        for (unsigned p = 1; p <= PROCESSES; p++) {
+            if (waiting[p - 1] != 0 && (highest || chosen == 0)) {
+                chosen = p;
+            }
+        }
+        if (chosen == 0) {
+            return;
+        }
+        me = chosen % shape[0] + 1;
+        if (waiting[me - 1] == 0) {
+            measure(SESSION_TURN);
+        }
+        me = chosen;
+        accepted(SESSION_TURN);
+    }
+}
+
+/* Delivers a participant's message and then its report; whether the initiator has answered. */
+static bool measure_exchange(uint64_t p, const uint8_t *bytes, size_t length) {
+    me = p;
+    message = bytes;
+    message_length = length - 1;
+    measure(PARTICIPANT_RECEIVE);
+    message_length = length;
+    accepted(PARTICIPANT_RECEIVE);
+    size_t reported = (size_t)lengths[first - 1];
+    if (reported == 0) {
+        return false;
+    }
+    uint8_t report[sizeof out];
+    memcpy(report, out, sizeof report);
+    message = report;
+    message_length = reported - 1;
+    measure(INITIATOR_RECEIVE);
+    message_length = reported;
+    accepted(INITIATOR_RECEIVE);
+    for (unsigned q = 0; q < PROCESSES; q++) {
+        if (lengths[q] != 0) {
+            return true;
+        }
+    }
+    return false;
+}
+
+/* The machines by themselves, from the invitations to the end. */
+static void measure_machines(void) {
+    for (me = 1; me <= shape[0]; me++) {
+        if (me != first) {
+            accepted(PARTICIPANT_FIRST);
+        }
+    }
+    accepted(INITIATOR_BEGIN);
+    for (bool more = true; more;) {
+        uint8_t sending[sizeof out];
+        uint64_t sending_lengths[PROCESSES];
+        memcpy(sending, out, sizeof out);
+        memcpy(sending_lengths, lengths, sizeof lengths);
+        const uint8_t *next = sending;
+        more = false;
+        for (uint64_t p = 1; p <= PROCESSES; p++) {
+            size_t length = (size_t)sending_lengths[p - 1];
+            if (length != 0) {
+                more = measure_exchange(p, next, length);
+                next += length;
+            }
+        }
+    }
+}
+
+static void measure_all(void) {
+    accepted(WRITE);
+    measure_books();
+    for (purpose = 1; purpose <= 3; purpose++) {
+        for (first = 1; first <= shape[0]; first += shape[0] > 1 ? shape[0] - 1 : 1) {
+            accepted(SEARCH);
+            measure_session(purpose == 1);
+            measure_machines();
+        }
+    }
+    measure_moves();
+}
+
+int main(void) {
+    const uint64_t paints[] = {0xA5A5A5A55A5A5A5Au, 0x0123456789ABCDEFu};
+    make_stack();
+    for (int i = 0; i < 2; i++) {
+        paint = paints[i];
+        paint_from(0);
+        make_tables(1, 1, 0, false);
+        measure_all();
+        make_tables(1, 256, 0, false);
+        measure_all();
+        make_tables(3, 2, 5, true);
+        measure_all();
+        make_tables(2, 128, 33000000, true);
+        measure_all();
+        make_tables(16, 16, 286331152, false);
+        measure_all();
+        make_tables(16, 16, 286331152, true);
+        measure_all();
+    }
+    for (int c = 0; c < CALLS; c++) {
+        printf("recovery_line_%s %zu %lu\n", calls[c].name, calls[c].most, calls[c].times);
+    }
+    return 0;
+}
