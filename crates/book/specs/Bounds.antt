@@ -20,7 +20,7 @@ groups = 5
 abbrev pub largest : ℕ
 largest = 4294967295
 
--- the mark for "not known", never a counter in a book
+-- the mark for "not known", never a counter in a book or message
 abbrev pub mark : ℕ
 mark = 4294967295
 

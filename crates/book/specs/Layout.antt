@@ -1,5 +1,6 @@
 -- Document 01, "The book": the book as numbers. n; then process by process its count of checkpoints, followed by its own
--- checkpoints; for each, oldest first, the messages sent to every other process, then those received from every other.
+-- checkpoints; for each, oldest first, the messages sent to every other process in rising order, then those received from every
+-- other in rising order.
 use mathlib.Core.List.{List, [], _∷_, _++_}
 use Prim.Native.Nat.{ℕ, zero, suc, _-_, _*_}
 use lib.ListN.{length, take, drop}

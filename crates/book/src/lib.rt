@@ -19,7 +19,7 @@ pub const MOST_BYTES: usize = 65536;
 pub const GROUPS: u32 = 5;
 
 pub const LARGEST: u64 = 4294967295;
-// The mark for "not known": never a counter in a book.
+// The mark for "not known": never a counter in a book or message.
 pub const MARK: u64 = 4294967295;
 
 pub const ROW_WIDTH: usize = 16;

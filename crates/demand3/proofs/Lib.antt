@@ -4,6 +4,7 @@ pub mod Kept
 pub mod Counts
 pub mod Lists
 pub mod Searching
+pub mod Purposes
 pub mod Start
 pub mod Exactly
 pub mod Claims

@@ -1,9 +1,10 @@
--- A turn leaves the other strands alone, unless it brings the initiator the last report, so that it sends.
+-- A turn leaves the other strands alone, unless it brings the initiator the last report, so that it sends; a refused one leaves all.
 use mathlib.Core.Path.{_≡_, refl, sym, ap, _∙_}
 use mathlib.Core.Bool.{Bool, true, false, _&&_}
 use mathlib.Core.List.{List}
 use mathlib.Core.Logic.{⊎-elim}
-use Prim.Native.Nat.{ℕ, _-_, _<_}
+use Prim.Native.Nat.{ℕ, suc, _-_, _<_}
+use native.Mathlib.Omega.{arith}
 use borrow.Author.Tests.{ne-eqb}
 use Rattle.book.specs.declared.Process.{Process}
 use Rattle.mail.specs.declared.Outgoing.{Outgoing}
@@ -30,12 +31,12 @@ use Rattle.session_theory.proofs.Boxes.{box-kept}
 use Rattle.search_turns.proofs.Strand.{strand-goes, strand-silent}
 use Rattle.demand3.specs.Statement.{atStart, after}
 use Rattle.demand3.specs.Beside.{LeavesOthers}
-use Rattle.demand3.proofs.Turn.{nextOf, goes, Refused, named-part}
+use Rattle.demand3.proofs.Turn.{questionOf, nextOf, goes, Refused, named-part, named-some}
 use Rattle.demand3.proofs.Kept.{Kept, Holds, Moved, turn}
 use Rattle.demand3.proofs.Counts.{lastAwaited, does, report-silent}
 use Rattle.demand3.proofs.Lists.{listed}
-use Rattle.demand3.proofs.Searching.{InSearch, search-kept}
-use Rattle.demand3.proofs.Start.{searchOf, is-search, searching, search-holds}
+use Rattle.demand3.proofs.Purposes.{InSession, kept-in}
+use Rattle.demand3.proofs.Start.{searchOf, is-search, session-holds}
 
 -- what participant k sends goes on its own strand
 strand-other : (k initiator : ℕ) (o : Outgoing) (q : ℕ) → q < 16 → (q ≡ k → ⊥) → goesTo (onStrand k initiator o) q ≡ false
@@ -86,6 +87,16 @@ box-left g s k box q small other none =
     box-kept (goes g s k (box k) .outgoing) k box q
     (does-other g s k (box k) q small (held (size g) s k (box k)) refl none other) other
 
+-- the turn that names p is accepted, and k is the process that it names
+abbrev pub DeliversAt : Search → Ongoing → Process → ℕ → Type 0
+DeliversAt g o p k = (questionOf g o p ≡ 0) × (p .0 ≡ suc k)
+
+-- where k's message stays, a turn that delivers does so on another strand
+pub moved-other :
+    (g : Search) (Inv : Session → (ℕ → List ℕ) → Type 0) (o : Ongoing) (p : Process) (box : ℕ → List ℕ) (k : ℕ)
+    → Moved g Inv o p box → (DeliversAt g o p k → ⊥) → k ≡ p .0 - 1 → ⊥
+moved-other g Inv o p box k m stays e = stays (m .accepted .question, omega (arith, named-some g p (m .named), e))
+
 module _ (g : Search) (is : IsSearch g) (Inv : Session → (ℕ → List ℕ) → Type 0) (kept : Kept g Inv) where
   module _ (o : Ongoing) (holds : Holds g Inv o) (p : Process) (k : ℕ) where
     abbrev j : ℕ
@@ -95,10 +106,11 @@ module _ (g : Search) (is : IsSearch g) (Inv : Session → (ℕ → List ℕ) �
     box = holds .box
 
     others-left :
-        isPart g k ≡ true → (k ≡ j → ⊥) → bringsLast (g .shape) (g .sent) (g .received) o p ≡ false
+        isPart g k ≡ true → (DeliversAt g o p k → ⊥)
+        → (questionOf g o p ≡ 0 → bringsLast (g .shape) (g .sent) (g .received) o p ≡ false)
         → waitingBytes (size g) (nextOf g o p .session) (nextOf g o p .strands) k
         ≡ waitingBytes (size g) (o .session) (o .strands) k
-    others-left there other none =
+    others-left there stays none =
         ⊎-elim
         (λ (r : Refused g o p). rw (r .session, r .strands))
         (λ (m : Moved g Inv o p box). moved m)
@@ -110,15 +122,15 @@ module _ (g : Search) (is : IsSearch g) (Inv : Session → (ℕ → List ℕ) �
         moved m =
             let silent : isLast g (o .session) j (box j) ≡ false =
             ap (λ (bytes : List ℕ). isLast g (o .session) j bytes) (sym (holds .laid j (named-part g p (m .named)) .bytes))
-            ∙ none in
+            ∙ none (m .accepted .question) in
             m .laid k there .bytes
-            ∙ box-left g (o .session) j box k (part-within g is k there) other silent
+            ∙ box-left g (o .session) j box k (part-within g is k there) (moved-other g Inv o p box k m stays) silent
             ∙ sym (holds .laid k there .bytes)
 
 pub leaves-others : LeavesOthers
-leaves-others b a h turns p k there other none =
+leaves-others b a turns p k there stays none =
     let g : Search = searchOf b in
     let is : IsSearch g = is-search b a in
-    let kept : Kept g (InSearch g) = search-kept g is (searching b a h) in
-    let all = listed g is (InSearch g) kept turns (atStart b) (search-holds b a h) in
-    others-left g is (InSearch g) kept (after b turns) (all .holds) p k there other none
+    let kept : Kept g (InSession g) = kept-in g is in
+    let all = listed g is (InSession g) kept turns (atStart b) (session-holds b a) in
+    others-left g is (InSession g) kept (after b turns) (all .holds) p k there stays none

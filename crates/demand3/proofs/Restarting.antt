@@ -26,7 +26,7 @@ use Rattle.demand3.proofs.Lists.{Listed, listed}
 use Rattle.demand3.proofs.Searching.{InRestart, restart-kept, restart-tell, goes-as}
 use Rattle.demand3.proofs.Start.{searchOf, is-search, start-delivered, restart-holds}
 use Rattle.demand3.proofs.Workers.{ended-closed}
-use Rattle.demand3.proofs.Exactly.{closed-waits, all-closed}
+use Rattle.demand3.proofs.Exactly.{closed-waits, all-closed, over-exactly}
 use Rattle.demand3.proofs.Others.{end-silent}
 
 module _ (b : Beginning) (a : IsAccepted b) (h : b .purpose ≡ 2) (turns : List Process) where
@@ -112,6 +112,9 @@ module _ (b : Beginning) (a : IsAccepted b) (h : b .purpose ≡ 2) (turns : List
   holds-restart : RestartHolds b turns
   holds-restart =
       record {
+        waits-exactly =
+            over-exactly g is s (o .strands) box (all .holds .laid) open′ (now .ends)
+            (restart-tell g is h s (o .strands) box open′ now .some);
         few-delivered = omega (arith, counted, now .deliveries);
         delivered = counted;
         no-round = now .no-round;

@@ -12,7 +12,7 @@ use Rattle.book.specs.declared.Process.{Process}
 use Rattle.book.specs.Bounds.{mark}
 use Rattle.book.specs.InTurn.{_then_, ask}
 use Rattle.book.specs.Check.{tablesQuestion}
-use Rattle.book.specs.Read.{bookRead}
+use Rattle.book.specs.Read.{bookRead, readQuestion}
 use Rattle.book.specs.Tables.{countsOf}
 use Rattle.book.proofs.Questions.{then-none, asked-yes, kept-passed}
 use Rattle.round_trips.proofs.Zeros.{length-padded}
@@ -38,10 +38,12 @@ use Rattle.machine_laws.proofs.Flags.{flagged-none}
 use Rattle.search_start.proofs.Alone.{flag-nobody}
 use Rattle.search_start.proofs.Start.{none-delivered}
 use Rattle.demand3.specs.Statement.{Beginning, shapeIn, sentIn, receivedIn, IsAccepted, Searches, atStart, startWaits}
+use Rattle.demand3.specs.Beside.{StartHasRoom}
 use Rattle.strand_laws.proofs.Theorems.{laid-begun}
 use Rattle.search_start.proofs.Theorems.{search-begins, restart-begins}
 use Rattle.demand3.proofs.Kept.{Kept, Holds}
 use Rattle.demand3.proofs.Searching.{InSearch, InRestart, search-kept, restart-kept}
+use Rattle.demand3.proofs.Purposes.{InSession, kept-in, begins-in, starts-with-room}
 
 abbrev pub searchOf : Beginning → Search
 searchOf b =
@@ -90,6 +92,26 @@ no-restart : (purpose : ℕ) → (purpose ≡ 1) ⊎ (purpose ≡ 3) → eqb pur
 no-restart purpose (inl e) = rw e
 no-restart purpose (inr e) = rw e
 
+-- an accepted read leaves tables that anybody can begin a session on, with any purpose
+pub read-search : (b : Beginning) → readQuestion (b .bytes) (b .sent) (b .received) ≡ 0
+    → isNamed (shapeIn b .n) (b .initiator .0) ≡ true → isPurpose (b .purpose) ≡ true → IsSearch (searchOf b)
+read-search b read named purposed =
+    let good : Good mark (bookRead (b .bytes)) = read-good (b .bytes) (b .sent) (b .received) read in
+    let counts : List ℕ = countsOf (bookRead (b .bytes) .processes) in
+    record {
+      long =
+          ap (λ (shape : Shape). length (shape .counts)) (shape-left (b .bytes) (b .sent) (b .received) read)
+          ∙ length-padded 16 counts
+          (omega (arith, length-countsOf (bookRead (b .bytes) .processes), good .long, good .few));
+      accepted = read-passes-check (b .bytes) (b .sent) (b .received) read;
+      named = named;
+      purposed = purposed;
+    }
+
+pub start-has-room : StartHasRoom
+start-has-room b read named purposed room =
+    starts-with-room (searchOf b) (read-search b read named purposed) (b .strands) room
+
 module _ (b : Beginning) (a : IsAccepted b) where
   abbrev g : Search
   g = searchOf b
@@ -103,18 +125,7 @@ module _ (b : Beginning) (a : IsAccepted b) where
       (haveRoom (size g) (lead g) (begins g .outgoing) (b .strands)) (a .start)
 
   pub is-search : IsSearch (searchOf b)
-  is-search =
-      let good : Good mark (bookRead (b .bytes)) = read-good (b .bytes) (b .sent) (b .received) (a .read) in
-      let counts : List ℕ = countsOf (bookRead (b .bytes) .processes) in
-      record {
-        long =
-            ap (λ (shape : Shape). length (shape .counts)) (shape-left (b .bytes) (b .sent) (b .received) (a .read))
-            ∙ length-padded 16 counts
-            (omega (arith, length-countsOf (bookRead (b .bytes) .processes), good .long, good .few));
-        accepted = read-passes-check (b .bytes) (b .sent) (b .received) (a .read);
-        named = asked .0;
-        purposed = asked .1;
-      }
+  is-search = read-search b (a .read) (asked .0) (asked .1)
 
   pub searching : Searches b → isSearch (g .purpose) ≡ true
   searching h = searches (b .purpose) h
@@ -185,3 +196,9 @@ module _ (b : Beginning) (a : IsAccepted b) where
   restart-holds h =
       let first = restart-begins g is-search h in
       start-holds (InRestart g) (restart-kept g is-search h) (first .0) (first .1)
+
+  -- with any purpose
+  pub session-holds : Holds g (InSession g) (atStart b)
+  session-holds =
+      let first = begins-in g is-search in
+      start-holds (InSession g) (kept-in g is-search) (first .0) (first .1)

@@ -5,7 +5,7 @@ use mathlib.Core.List.{List, []}
 use mathlib.Core.Logic.{inl, inr, ⊎-elim}
 use Prim.Native.Nat.{ℕ, _-_, _≤_}
 use native.Mathlib.Omega.{arith}
-use borrow.Author.Tests.{ne-eqb, eqb-false, not-true}
+use borrow.Author.Tests.{ne-eqb, eqb-true, eqb-false, not-true}
 use lib.ListN.{length}
 use lib.Dec.{eqb}
 use Rattle.book.specs.declared.Process.{Process}
@@ -23,7 +23,7 @@ use Rattle.session.specs.Workers.{waitsOn}
 use Rattle.session.specs.Held.{waitingBytes, held, isReport}
 use Rattle.session.specs.Turns.{Ongoing}
 use Rattle.session_theory.proofs.Search.{Search, IsSearch, size, isPart}
-use Rattle.session_theory.proofs.Invariant.{boxAfter, Phase, quiet, reported, asked, InPhase, Waits, Finished}
+use Rattle.session_theory.proofs.Invariant.{boxAfter, Phase, quiet, reported, asked, InPhase, Waits, Finished, Restarts}
 use Rattle.session_theory.proofs.Facts.{part-within, part-me}
 use Rattle.demand3.specs.Statement.{atStart, after}
 use Rattle.demand3.specs.Beside.{StaysUntilDelivered}
@@ -32,9 +32,10 @@ use Rattle.demand3.proofs.Turn.{nextOf, goes, Refused, named-part}
 use Rattle.demand3.proofs.Kept.{Kept, Holds, Moved, turn, waits-part}
 use Rattle.demand3.proofs.Counts.{lastAwaited}
 use Rattle.demand3.proofs.Lists.{listed}
-use Rattle.demand3.proofs.Searching.{InSearch, search-kept, over-tell}
-use Rattle.demand3.proofs.Start.{searchOf, is-search, searching, search-holds}
-use Rattle.demand3.proofs.Others.{isLast, box-left}
+use Rattle.demand3.proofs.Searching.{InSearch, over-tell, restart-tell}
+use Rattle.demand3.proofs.Purposes.{In, InSession, restarts, is-searching, kept-in}
+use Rattle.demand3.proofs.Start.{searchOf, is-search, session-holds}
+use Rattle.demand3.proofs.Others.{isLast, box-left, DeliversAt, moved-other}
 
 -- where a termination or nothing waits, no report does
 no-last : (w : Waiting) (open′ last : Bool) → w ≡ pick open′ Ending Nothing → (isReport w && last) ≡ false
@@ -75,20 +76,34 @@ module _ (g : Search) (is : IsSearch g) (s : Session) (box : ℕ → List ℕ) w
         no-last (held (size g) s j (box j)) (open′ j) (lastAwaited (s .machine) j)
         (over-tell g is searches s [] box open′ f .holds j named)
 
-    not-last : InSearch g s box → (k : ℕ) → isPart g k ≡ true → 1 ≤ length (box k) → (j : ℕ) → isPart g j ≡ true
+    search-last : InSearch g s box → (k : ℕ) → isPart g k ≡ true → 1 ≤ length (box k) → (j : ℕ) → isPart g j ≡ true
         → (k ≡ j → ⊥) → isLast g s j (box j) ≡ false
-    not-last (inl w) k there some j named other = going-last k there some (w .0) (w .1) (w .2) j other
-    not-last (inr f) k there some j named other = over-last (f .0) (f .1) j named
+    search-last (inl w) k there some j named other = going-last k there some (w .0) (w .1) (w .2) j other
+    search-last (inr f) k there some j named other = over-last (f .0) (f .1) j named
+
+  -- nor in a restart
+  restart-last : g .purpose ≡ 2 → (open′ : ℕ → Bool) → Restarts g s box open′ → (j : ℕ) → isPart g j ≡ true
+      → isLast g s j (box j) ≡ false
+  restart-last h open′ r j named =
+      no-last (held (size g) s j (box j)) (open′ j) (lastAwaited (s .machine) j)
+      (restart-tell g is h s [] box open′ r .holds j named)
+
+  not-last : InSession g s box → (k : ℕ) → isPart g k ≡ true → 1 ≤ length (box k) → (j : ℕ) → isPart g j ≡ true
+      → (k ≡ j → ⊥) → isLast g s j (box j) ≡ false
+  not-last state k there some j named other = go (restarts g) refl state
+    where
+      go : (v : Bool) → restarts g ≡ v → In v g s box → isLast g s j (box j) ≡ false
+      go true e r = restart-last (eqb-true (g .purpose) 2 e) (r .0) (r .1) j named
+      go false e i = search-last (is-searching g is e) i k there some j named other
 
 module _
     (g : Search)
     (is : IsSearch g)
-    (searches : isSearch (g .purpose) ≡ true)
     (o : Ongoing)
-    (holds : Holds g (InSearch g) o)
+    (holds : Holds g (InSession g) o)
     (p : Process)
     (k : ℕ)
-    (other : k ≡ p .0 - 1 → ⊥)
+    (undelivered : DeliversAt g o p k → ⊥)
     (waits : waitsOn (o .session) k ≡ true)
   where
     abbrev s : Session
@@ -103,11 +118,11 @@ module _
     abbrev next : Ongoing
     next = nextOf g o p
 
-    kept : Kept g (InSearch g)
-    kept = search-kept g is searches
+    kept : Kept g (InSession g)
+    kept = kept-in g is
 
     there : isPart g k ≡ true
-    there = waits-part g is (InSearch g) kept o holds k waits
+    there = waits-part g is (InSession g) kept o holds k waits
 
     some : 1 ≤ length (box k)
     some =
@@ -115,14 +130,15 @@ module _
         eqb-false (lengthOn (s .lengths) k) 0 (not-true (eqb (lengthOn (s .lengths) k) 0) waits) in
         omega (arith, filled, holds .laid k there .long)
 
-    moved : Moved g (InSearch g) o p box
+    moved : Moved g (InSession g) o p box
         → (waitsOn (next .session) k ≡ true)
         × (waitingBytes (size g) (next .session) (next .strands) k ≡ waitingBytes (size g) s (o .strands) k)
     moved m =
         let now : ℕ → List ℕ = boxAfter (goes g s j (box j) .outgoing) j box in
+        let other : k ≡ j → ⊥ = moved-other g (InSession g) o p box k m undelivered in
         let same : now k ≡ box k =
         box-left g s j box k (part-within g is k there) other
-        (not-last g is s box searches (holds .state) k there some j (named-part g p (m .named)) other) in (
+        (not-last g is s box (holds .state) k there some j (named-part g p (m .named)) other) in (
           box-waits g (next .session) (next .strands) now (m .laid) k there (omega (arith, some, ap length same)),
           m .laid k there .bytes ∙ same ∙ sym (holds .laid k there .bytes),
         )
@@ -133,14 +149,12 @@ module _
     stays =
         ⊎-elim
         (λ (r : Refused g o p). rw (r .session, r .strands) (waits, refl))
-        (λ (m : Moved g (InSearch g) o p box). moved m)
-        (turn g is (InSearch g) kept o holds p)
+        (λ (m : Moved g (InSession g) o p box). moved m)
+        (turn g is (InSession g) kept o holds p)
 
 pub stays-until-delivered : StaysUntilDelivered
-stays-until-delivered b a h turns p k other waits =
+stays-until-delivered b a turns p k undelivered waits =
     let g : Search = searchOf b in
     let is : IsSearch g = is-search b a in
-    let sure : isSearch (g .purpose) ≡ true = searching b a h in
-    let all =
-    listed g is (InSearch g) (search-kept g is sure) turns (atStart b) (search-holds b a h) in
-    stays g is sure (after b turns) (all .holds) p k other waits
+    let all = listed g is (InSession g) (kept-in g is) turns (atStart b) (session-holds b a) in
+    stays g is (after b turns) (all .holds) p k undelivered waits

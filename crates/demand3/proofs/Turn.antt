@@ -86,6 +86,9 @@ module _ (g : Search) (p : Process) (named : isNamedPart g p ≡ true) where
         leb-true 1 (g .initiator .0) (first .0),
       )
 
+  pub named-some : 1 ≤ p .0
+  named-some = parts .0
+
   pub named-part : isPart g (p .0 - 1) ≡ true
   named-part =
       is-part g (p .0 - 1) (omega (arith, parts .0, parts .1))

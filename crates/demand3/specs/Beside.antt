@@ -1,19 +1,30 @@
--- What users rely on beside demand 3: a search comes to its end, a turn leaves the other strands alone, and what a bare restart
--- comes to.
+-- What users rely on beside demand 3: how many bytes suffice for the start, that a search comes to its end, that a turn leaves the
+-- other strands alone, and what a bare restart comes to.
 use mathlib.Core.Path.{_≡_}
 use mathlib.Core.Bool.{true, false}
 use mathlib.Core.List.{List, _++_}
 use mathlib.Core.Logic.{_⊎_}
-use Prim.Native.Nat.{ℕ, _+_, _-_, _≤_, _<_}
+use Prim.Native.Nat.{ℕ, suc, _+_, _-_, _≤_, _<_}
 use lib.ListN.{length}
 use Rattle.book.specs.declared.Process.{Process}
+use Rattle.book.specs.Read.{readQuestion}
 use Rattle.line_theory.specs.Search.{line}
+use Rattle.message.specs.Formed.{isNamed, isPurpose}
 use Rattle.machine.specs.Named.{isParticipant}
 use Rattle.strands.specs.Strands.{roomForAll}
 use Rattle.session.specs.Workers.{standsOn, hasEnded, waitsOn}
 use Rattle.session.specs.Held.{waitingBytes}
+use Rattle.session.specs.Calls.{startQuestion}
 use Rattle.session.specs.Turns.{Ongoing, afterTurn, acceptedTurns, bringsLast}
-use Rattle.demand3.specs.Statement.{Beginning, shapeIn, sentIn, receivedIn, viewIn, IsAccepted, Searches, atStart, after, nextQuestion, messageWaits, mostDelivered}
+use Rattle.demand3.specs.Statement.{Beginning, shapeIn, sentIn, receivedIn, viewIn, IsAccepted, Searches, atStart, after, nextQuestion, messageWaits, someoneGoesOn, mostDelivered}
+
+-- Room for all strands, (n − 1) × (6n − 2) bytes, suffices for the start too, with any purpose.
+abbrev pub StartHasRoom : Type 0
+StartHasRoom =
+    (b : Beginning) → readQuestion (b .bytes) (b .sent) (b .received) ≡ 0
+    → isNamed (shapeIn b .n) (b .initiator .0) ≡ true → isPurpose (b .purpose) ≡ true
+    → roomForAll (shapeIn b .n) ≤ length (b .strands)
+    → startQuestion (shapeIn b) (sentIn b) (receivedIn b) (b .initiator) (b .purpose) (b .strands) ≡ 0
 
 -- With room, some turn is accepted for as long as some worker has not ended,
 abbrev pub GoesOn : Type 0
@@ -41,32 +52,39 @@ EndIsReached =
     × (acceptedIn b turns + length more ≤ mostDelivered (viewIn b))
     × AtEnd b (turns ++ more)
 
--- "A message waits from the start or turn that writes it until the turn that delivers it": a turn on another strand leaves it.
+-- after the list the turn naming p is accepted, and so delivers the message on the strand of process k, counted from 0
+abbrev pub DeliversOn : Beginning → List Process → Process → ℕ → Type 0
+DeliversOn b turns p k = (nextQuestion b turns p ≡ 0) × (p .0 ≡ suc k)
+
+-- "A message waits from the start or turn that writes it until the turn that delivers it": every other turn leaves it, with any
+-- purpose.
 abbrev pub StaysUntilDelivered : Type 0
 StaysUntilDelivered =
-    (b : Beginning) → IsAccepted b → Searches b → (turns : List Process) (p : Process) (k : ℕ)
+    (b : Beginning) → IsAccepted b → (turns : List Process) (p : Process) (k : ℕ)
     → let n : ℕ = shapeIn b .n in
     let before : Ongoing = after b turns in
     let next : Ongoing = afterTurn (shapeIn b) (sentIn b) (receivedIn b) before p in
-    (k ≡ p .0 - 1 → ⊥) → waitsOn (before .session) k ≡ true
+    (DeliversOn b turns p k → ⊥) → waitsOn (before .session) k ≡ true
     → (waitsOn (next .session) k ≡ true)
     × (waitingBytes n (next .session) (next .strands) k ≡ waitingBytes n (before .session) (before .strands) k)
 
--- Nothing new appears on another participant's strand either, unless the turn brings the initiator the last report, so that it
--- sends.
+-- Nothing new appears on another participant's strand either, unless an accepted turn brings the initiator the last report, so
+-- that it sends.
 abbrev pub LeavesOthers : Type 0
 LeavesOthers =
-    (b : Beginning) → IsAccepted b → Searches b → (turns : List Process) (p : Process) (k : ℕ)
+    (b : Beginning) → IsAccepted b → (turns : List Process) (p : Process) (k : ℕ)
     → let n : ℕ = shapeIn b .n in
     let before : Ongoing = after b turns in
     let next : Ongoing = afterTurn (shapeIn b) (sentIn b) (receivedIn b) before p in
-    isParticipant n (b .initiator .0 - 1) k ≡ true → (k ≡ p .0 - 1 → ⊥)
-    → bringsLast (shapeIn b) (sentIn b) (receivedIn b) before p ≡ false
+    isParticipant n (b .initiator .0 - 1) k ≡ true → (DeliversOn b turns p k → ⊥)
+    → (nextQuestion b turns p ≡ 0 → bringsLast (shapeIn b) (sentIn b) (receivedIn b) before p ≡ false)
     → waitingBytes n (next .session) (next .strands) k ≡ waitingBytes n (before .session) (before .strands) k
 
--- Purpose 2: after n − 1 accepted turns everybody has ended on checkpoint 1, and nothing waits. A turn on a strand where a message
--- waits is always accepted.
+-- Purpose 2: after n − 1 accepted turns everybody has ended on checkpoint 1, and nothing waits. For as long as some worker has not
+-- ended a message waits, and a turn on a strand where one waits is always accepted.
 pub record RestartHolds (b : Beginning) (turns : List Process) : Type 0 where
+  -- "a message waits exactly when some worker has not ended"
+  pub waits-exactly : messageWaits (after b turns .session) ≡ someoneGoesOn (shapeIn b .n) (after b turns .session)
   pub few-delivered : acceptedTurns (shapeIn b) (sentIn b) (receivedIn b) (atStart b) turns ≤ shapeIn b .n - 1
   pub delivered : after b turns .session .delivered ≡ acceptedTurns (shapeIn b) (sentIn b) (receivedIn b) (atStart b) turns
   pub no-round : after b turns .session .machine .rounds ≡ 0

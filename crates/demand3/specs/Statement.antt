@@ -94,12 +94,13 @@ pub record HoldsAfter (b : Beginning) (turns : List Process) : Type 0 where
   -- "The messages delivered are the accepted turns of the list, and the session's count equals their number."
   pub delivered :
       after b turns .session .delivered ≡ acceptedTurns (shapeIn b) (sentIn b) (receivedIn b) (atStart b) turns
+  -- "At most (n − 1) × (2T + 5) messages have been delivered,"
   pub few-delivered : after b turns .session .delivered ≤ mostDelivered (viewIn b)
   -- "A round is one wait of at least one report, counted as the wait begins."
   pub rounds :
       after b turns .session .machine .rounds
       ≡ startWaits b + waitsBegun (shapeIn b) (sentIn b) (receivedIn b) (atStart b) turns
-  -- (beside demand 3)
+  -- (not in demand 3's own words; 01 wants the count of rounds too "bounded in demand 3")
   pub few-rounds : after b turns .session .machine .rounds ≤ newer (viewIn b) + 2
   -- "No worker stands on a checkpoint earlier than the line's,"
   pub none-below : (j : ℕ) → j < shapeIn b .n → line (viewIn b) j ≤ standsOn (after b turns .session) j

@@ -11,7 +11,7 @@ use Rattle.session_examples.specs.Books.{lent, setOf, k1, k6}
 use Rattle.session_examples.proofs.Computing.{computing}
 use Rattle.examples.specs.Starred.{Starred, NotConsistent, MovedTo, holds, _also_, none}
 use Rattle.examples.proofs.Pairs.{noOther, only-answer}
-use Rattle.session_examples.proofs.Sessions.{alone, two, k1-by-1, k1-by-2, k6-by-2}
+use Rattle.session_examples.proofs.Sessions.{alone, two-by-1, two-by-2, k1-by-1, k1-by-2, k6-by-2}
 
 not-consistent : holds (NotConsistent k1 (2 ∷ 2 ∷ 2 ∷ []) 1 2)
 unfolding computing noOther
@@ -33,7 +33,8 @@ starred-hold =
     also alone
     also refl
     also refl
-    also two
+    also two-by-1
+    also two-by-2
     also refl
     also refl
     also refl

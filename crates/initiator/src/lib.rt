@@ -29,7 +29,7 @@ ghost use Rattle.initiator.specs.Step.{senderOf, awaits};
 ghost use Rattle.initiator.specs.Calls.{beginQuestion, noInitiator, stateBegun, lengthsBegun, bytesBegun, stateQuestion, receiveQuestion, stateAfter, lengthsAfter, bytesAfter};
 
 // An initiator's state: its candidate; for every ordered pair of processes the sent counter of the sender's candidate, or
-// "not known"; the copy of that before the present wait; who is awaited; and how many waits there were.
+// "not known" (K's V); the copy of that before the present wait (K's V'); who is awaited; and how many waits there were.
 pub struct Initiator {
     pub n: usize,
     pub me: Process,

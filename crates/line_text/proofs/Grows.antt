@@ -9,7 +9,8 @@ use lib.ListN.{length, take, set, getD, length-append}
 use lib.Seq.{take-suc, take-suc-set, take-all, length-take-le}
 use Rattle.book.specs.declared.Checkpoint.{Checkpoint}
 use Rattle.line_text.specs.declared.Text.{Text}
-use Rattle.line_text.specs.Text.{Grown, Holds, spaced, row, checkpointNumbers}
+use Rattle.line_text.specs.Text.{spaced, row, checkpointNumbers}
+use Rattle.line_text.specs.Parts.{Grown, Holds}
 use Rattle.line_text.proofs.Decimal.{row-most, numbers-most}
 
 pub grown-none : (text : Text) → Grown text text []

@@ -15,7 +15,8 @@ use Rattle.round_trips.proofs.Theorems.{read-passes-check}
 use Rattle.line_theory.proofs.Accepted.{accepted-size}
 use Rattle.searches.specs.Search.{setSearched, passedSearched, roundsSearched, messagesSearched}
 use Rattle.line_text.specs.declared.Text.{Text}
-use Rattle.line_text.specs.Text.{Holds, foundText, refusedText}
+use Rattle.line_text.specs.Text.{foundText, refusedText}
+use Rattle.line_text.specs.Parts.{Holds}
 use Rattle.line_text.specs.Line.{tableInside, searchText, textBy, lineText}
 
 abbrev first : Process

@@ -2,3 +2,4 @@ pub mod Ascii
 pub mod Text
 pub mod Put
 pub mod Line
+pub mod Parts

@@ -1,12 +1,10 @@
 -- Document 01, "Program `line`": the text that it prints, as bytes.
-use mathlib.Core.Path.{_≡_}
 use mathlib.Core.Bool.{true, false}
 use mathlib.Core.List.{List, [], _∷_, _++_}
-use Prim.Native.Nat.{ℕ, zero, suc, _+_, _/_, _%_, _≤_}
-use lib.ListN.{length, take, getD}
+use Prim.Native.Nat.{ℕ, zero, suc, _+_, _/_, _%_}
+use lib.ListN.{getD}
 use lib.Dec.{ltb}
 use Rattle.book.specs.declared.Checkpoint.{Checkpoint}
-use Rattle.line_text.specs.declared.Text.{Text}
 use Rattle.line_text.specs.Ascii.{ascii}
 
 -- the digits of n, without leading zeros, in at most `fuel` digits
@@ -44,14 +42,3 @@ foundText n set passed rounds messages =
 -- a refused book
 unfoldable pub refusedText : ℕ → List ℕ
 refusedText question = row (ascii "refused") question
-
--- a text with `more` bytes behind those that it had
-pub record Grown (before after : Text) (more : List ℕ) : Type 0 where
-  pub first : take (after .len) (after .bytes) ≡ take (before .len) (before .bytes) ++ more
-  pub long : after .len ≡ before .len + length more
-
--- a text of just these bytes, which lie within the array
-pub record Holds (text : Text) (bytes : List ℕ) : Type 0 where
-  pub first : take (text .len) (text .bytes) ≡ bytes
-  pub long : text .len ≡ length bytes
-  pub inside : text .len ≤ 512

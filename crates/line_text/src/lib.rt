@@ -10,9 +10,10 @@ ghost use mathlib.Core.List.{[], _∷_};
 ghost use Prim.Native.Nat.{_+_, _≤_, _<_};
 ghost use lib.ListN.{length, take};
 ghost use lib.Seq.{sets};
-ghost use Rattle.line_text.specs.Text.{Grown, Holds, decimal, spaced, row, checkpointNumbers, firstLines, foundText, refusedText};
+ghost use Rattle.line_text.specs.Text.{decimal, spaced, row, checkpointNumbers, firstLines, foundText, refusedText};
 ghost use Rattle.line_text.specs.Put.{putAnswer, textPut};
 ghost use Rattle.line_text.specs.Line.{tableInside, searchText, lineText};
+ghost use Rattle.line_text.specs.Parts.{Grown, Holds};
 
 // Room for the longest text: sixteen checkpoint numbers, four other numbers, each of at most 20 digits, and the words.
 pub const ROOM: usize = 512;

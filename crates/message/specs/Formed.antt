@@ -18,7 +18,7 @@ use Rattle.message.specs.Layout.{pairCount, noNews}
 abbrev pub isKind : ℕ → Bool
 isKind kind = eqb kind 1 || eqb kind 2
 
--- "purposes 1 to 3"; question 11, of what a call or a state names: "Is the purpose 1, 2 or 3?"
+-- 01's purposes: "1 advance the line, 2 restart only, 3 advance and restart". "purposes 1 to 3"; question 11, of what a call or a state names: "Is the purpose 1, 2 or 3?"
 abbrev pub isPurpose : ℕ → Bool
 isPurpose purpose = leb 1 purpose && leb purpose 3
 

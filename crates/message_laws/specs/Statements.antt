@@ -1,4 +1,5 @@
 -- The laws of messages, for every number of processes up to sixteen, every message and all bytes.
+-- `T b` is the library's "b is true", not document 01's T.
 use mathlib.Core.Path.{_≡_}
 use mathlib.Core.Bool.{true}
 use mathlib.Core.List.{List}
@@ -26,7 +27,7 @@ ReadIsWritten =
     (n me initiator : ℕ) (s : List ℕ) → n ≤ mostProcesses → T (areBytes s) → messageFormed n me initiator s ≡ true
     → messageBytes (messageRead n me initiator s) ≡ s
 
--- Question 14 passes exactly formed messages: what was read is one.
+-- Question 14 passes formed messages alone: what was read is one. (That it passes all of them: `WrittenIsRead`.)
 abbrev pub ReadIsFormed : Type 0
 ReadIsFormed =
     (n me initiator : ℕ) (s : List ℕ) → n ≤ mostProcesses → messageFormed n me initiator s ≡ true

@@ -17,7 +17,7 @@ pub record Move : Type 0 where
   pub received : List ℕ
   pub purpose : ℕ
 
--- sixteen counts, and no question fails
+-- sixteen counts, and no question fails (`passed` is not 01's "passed", which is T)
 pub record IsAccepted (m : Move) : Type 0 where
   pub sixteen : length (m .shape .counts) ≡ mostProcesses
   pub passed : moveQuestion (m .shape) (m .sent) (m .received) (m .purpose) ≡ 0

@@ -7,7 +7,8 @@ use Rattle.line_theory.specs.Sets.{View}
 use Rattle.line_theory.specs.Search.{line}
 use Rattle.matrix.specs.Matrix.{pick}
 
--- "With purpose 1 or 3 the tables' line becomes the oldest" (K's Adv)
+-- 01's purposes: "1 advance the line, 2 restart only, 3 advance and restart". "With purpose 1 or 3 the tables' line becomes the
+-- oldest" (K's Adv)
 abbrev pub advances : ℕ → Bool
 advances purpose = eqb purpose 1 || eqb purpose 3
 

@@ -1,5 +1,6 @@
 -- Demand 1 and 2 for books and tables, as statements about the definitions that the contracts of `read`, `check` and
 -- `write` cite. A slice of bytes holds numbers below 256, and a shape's array has sixteen counts.
+-- `T b` is the library's "b is true", not document 01's T.
 use mathlib.Core.Path.{_≡_}
 use mathlib.Core.List.{List, _++_}
 use mathlib.Core.Logic.{_↔_}

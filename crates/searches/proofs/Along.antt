@@ -18,8 +18,9 @@ use Rattle.session_theory.proofs.Search.{Search, IsSearch, size, most}
 use Rattle.demand3.specs.Statement.{messageWaits}
 use Rattle.demand3.proofs.Turn.{questionOf, nextOf}
 use Rattle.demand3.proofs.Kept.{Holds, holds-next, long-next, counted, room-answers}
+use Rattle.demand3.proofs.Purposes.{In, InSession, restarts, kept-in}
 use Rattle.searches.specs.Lowest.{lowestWaiting, toEnd}
-use Rattle.searches.proofs.Begin.{In, InSession, restarts, startOf, kept-in, start-holds, start-long}
+use Rattle.searches.proofs.Begin.{startOf, start-holds, start-long}
 use Rattle.searches.proofs.Lowest.{lowest-found, some-found}
 
 -- ---- one turn more, or none

@@ -1,46 +1,26 @@
--- A start with room for all that can wait is accepted, with any purpose; and what holds of the session then.
-use mathlib.Core.Path.{_≡_, refl, ap, _∙_}
-use mathlib.Core.Bool.{Bool, true, false, not}
+-- What holds of a session after a start with room for all that can wait, with any purpose.
+use mathlib.Core.Path.{_≡_, ap, _∙_}
 use mathlib.Core.List.{List}
 use Prim.Native.Nat.{ℕ, _-_, _≤_}
 use native.Mathlib.Omega.{arith}
 use native.Mathlib.Nat.{mul-le-mul}
-use borrow.Author.Tests.{eqb-true}
 use lib.ListN.{length, length-replicate}
-use lib.Dec.{eqb}
 use Rattle.book.specs.Bounds.{mostProcesses}
-use Rattle.book.specs.InTurn.{_then_, ask}
-use Rattle.book.specs.Check.{tablesQuestion}
 use Rattle.book.proofs.Questions.{kept-passed}
-use Rattle.book.proofs.Tests.{both-and}
-use Rattle.message.specs.Formed.{isNamed, isPurpose}
 use Rattle.mail.specs.Outgoing.{bytesTo}
-use Rattle.exchange_laws.specs.Ends.{isSearch}
-use Rattle.strands.specs.Strands.{slotSize, roomForAll, haveRoom, posted}
+use Rattle.strands.specs.Strands.{slotSize, roomForAll, posted}
 use Rattle.session.specs.declared.Session.{Session}
 use Rattle.session.specs.Steps.{withPosted}
 use Rattle.session.specs.Calls.{noSession, startQuestion, sessionStarted, strandsStarted}
 use Rattle.session.specs.Turns.{Ongoing, started}
 use Rattle.session_theory.proofs.Search.{Search, IsSearch, size, lead}
 use Rattle.session_theory.proofs.Invariant.{Laid}
-use Rattle.session_theory.proofs.Moves.{begins, ToParticipants, Short}
+use Rattle.session_theory.proofs.Moves.{begins}
 use Rattle.search_start.proofs.Start.{none-delivered}
-use Rattle.demand3.proofs.Kept.{Kept, Holds}
-use Rattle.demand3.proofs.Searching.{InSearch, InRestart, search-kept, restart-kept}
+use Rattle.demand3.proofs.Kept.{Holds}
+use Rattle.demand3.proofs.Purposes.{InSession, begins-in, begins-short, begins-room, starts-with-room}
 use Rattle.searches.specs.Lowest.{strandsInside}
-use Rattle.strand_laws.proofs.Theorems.{laid-begun, room-suffices}
-use Rattle.search_start.proofs.Theorems.{search-begins, restart-begins}
-
--- what holds of a session: of a bare restart, or of a search
-abbrev pub In : Bool → Search → Session → (ℕ → List ℕ) → Type 0
-In true g s box = InRestart g s box
-In false g s box = InSearch g s box
-
-abbrev pub restarts : Search → Bool
-restarts g = eqb (g .purpose) 2
-
-abbrev pub InSession : Search → Session → (ℕ → List ℕ) → Type 0
-InSession g s box = In (restarts g) g s box
+use Rattle.strand_laws.proofs.Theorems.{laid-begun}
 
 -- as the start leaves them
 abbrev pub startOf : Search → List ℕ → Ongoing
@@ -54,69 +34,31 @@ room-inside n small =
     let most : roomForAll n ≤ roomForAll mostProcesses = mul-le-mul others slots in
     omega (arith, most, length-replicate {A = ℕ} (roomForAll mostProcesses) 0)
 
--- the four parts of a start's question
-all-yes : (tables : ℕ) (named purposed room : Bool) → tables ≡ 0 → named ≡ true → purposed ≡ true → room ≡ true
-    → (tables then λ _. ask 10 named then λ _. ask 11 purposed then λ _. ask 17 room) ≡ 0
-all-yes tables named purposed room a b c d = rw (a, b, c, d)
-
 module _ (g : Search) (is : IsSearch g) where
-  -- no restart, so a search
-  pub is-searching : restarts g ≡ false → isSearch (g .purpose) ≡ true
-  is-searching other = both-and (isPurpose (g .purpose)) (not (restarts g)) (is .purposed) (ap not other)
-
-  pub kept-in : Kept g (InSession g)
-  kept-in = go (restarts g) refl
-    where
-      go : (v : Bool) → restarts g ≡ v → Kept g (In v g)
-      go true e = restart-kept g is (eqb-true (g .purpose) 2 e)
-      go false e = search-kept g is (is-searching e)
-
-  begins-in : ToParticipants g (begins g .outgoing) × InSession g (withPosted (begins g)) (bytesTo (begins g .outgoing))
-  begins-in = go (restarts g) refl
-    where
-      go : (v : Bool) → restarts g ≡ v
-          → ToParticipants g (begins g .outgoing) × In v g (withPosted (begins g)) (bytesTo (begins g .outgoing))
-      go true e = restart-begins g is (eqb-true (g .purpose) 2 e)
-      go false e = search-begins g is (is-searching e)
-
-  begins-short : Short g (begins g .outgoing)
-  begins-short k small sent =
-      kept-in .short (withPosted (begins g)) (bytesTo (begins g .outgoing)) (begins-in .1) k (begins-in .0 k small sent)
-
   module _ (strands : List ℕ) (room : roomForAll (size g) ≤ length strands) where
-    begins-room : haveRoom (size g) (lead g) (begins g .outgoing) strands ≡ true
-    begins-room = room-suffices g (begins g .outgoing) strands is (begins-in .0) begins-short room
-
-    pub starts-with-room : startQuestion (g .shape) (g .sent) (g .received) (g .initiator) (g .purpose) strands ≡ 0
-    unfolding startQuestion
-    starts-with-room =
-        all-yes (tablesQuestion (g .shape) (g .sent) (g .received)) (isNamed (size g) (g .initiator .0)) (isPurpose (g .purpose))
-        (haveRoom (size g) (lead g) (begins g .outgoing) strands)
-        (is .accepted) (is .named) (is .purposed) begins-room
-
     session-left : startOf g strands .session ≡ withPosted (begins g)
     unfolding sessionStarted
     session-left =
         kept-passed (startQuestion (g .shape) (g .sent) (g .received) (g .initiator) (g .purpose) strands) noSession
-        (withPosted (begins g)) starts-with-room
+        (withPosted (begins g)) (starts-with-room g is strands room)
 
     strands-left : startOf g strands .strands ≡ posted (size g) (lead g) (begins g .outgoing) strands
     unfolding strandsStarted
     strands-left =
         kept-passed (startQuestion (g .shape) (g .sent) (g .received) (g .initiator) (g .purpose) strands) strands
-        (posted (size g) (lead g) (begins g .outgoing) strands) starts-with-room
+        (posted (size g) (lead g) (begins g .outgoing) strands) (starts-with-room g is strands room)
 
     laid :
         Laid g (withPosted (begins g)) (posted (size g) (lead g) (begins g .outgoing) strands) (bytesTo (begins g .outgoing))
         × (length (posted (size g) (lead g) (begins g .outgoing) strands) ≡ length strands)
-    laid = laid-begun g strands is (begins-in .0) begins-short begins-room
+    laid = laid-begun g strands is (begins-in g is .0) (begins-short g is) (begins-room g is strands room)
 
     pub start-holds : Holds g (InSession g) (startOf g strands)
     start-holds =
         record {
           box = bytesTo (begins g .outgoing);
           laid = rw (session-left, strands-left) (laid .0);
-          state = rw session-left (begins-in .1);
+          state = rw session-left (begins-in g is .1);
         }
 
     pub start-long : length (startOf g strands .strands) ≡ length strands

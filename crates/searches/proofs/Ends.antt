@@ -23,10 +23,10 @@ use Rattle.session_theory.proofs.Facts.{lead-in}
 use Rattle.demand3.specs.Statement.{messageWaits, someoneGoesOn}
 use Rattle.demand3.proofs.Kept.{Holds, placed-in}
 use Rattle.demand3.proofs.Searching.{InSearch, waits-tell, over-tell, restart-tell}
+use Rattle.demand3.proofs.Purposes.{In, InSession, restarts, is-searching, kept-in}
 use Rattle.demand3.proofs.Workers.{none-ended, ended-closed}
 use Rattle.demand3.proofs.Exactly.{going-exactly, over-exactly}
 use Rattle.searches.specs.Search.{endOf}
-use Rattle.searches.proofs.Begin.{In, InSession, restarts, is-searching, kept-in}
 
 -- where everybody of a search ends
 abbrev pub endIn : Search → ℕ → ℕ

@@ -1,5 +1,6 @@
 -- The loop of `take_turns`, and what `run` answers.
 use mathlib.Core.Path.{_≡_, refl, sym, ap, _∙_}
+use mathlib.Core.Bool.{true}
 use mathlib.Core.List.{List, _∷_}
 use Prim.Native.Nat.{ℕ, suc, _+_, _-_, _≤_, _<_}
 use native.Mathlib.Numerals.{add-one}
@@ -10,16 +11,10 @@ use Rattle.book.specs.declared.Answer.{Answer}
 use Rattle.book.specs.declared.Answer.the-variants.{Accepted}
 use Rattle.book.specs.declared.Shape.{Shape}
 use Rattle.book.specs.declared.Process.{Process}
-use Rattle.book.specs.Bounds.{mark}
 use Rattle.book.specs.InTurn.{_then_, ask, answerTo}
 use Rattle.book.specs.Read.{bookRead, noShape, readQuestion, shapeRead, sentRead, receivedRead}
-use Rattle.book.specs.Tables.{countsOf, sentTable, receivedTable}
+use Rattle.book.specs.Tables.{sentTable, receivedTable}
 use Rattle.book.proofs.Questions.{then-none, then-passed, then-refused, answer-passed, kept-passed, kept-refused}
-use Rattle.round_trips.proofs.Zeros.{length-padded}
-use Rattle.round_trips.proofs.ToTables.{length-countsOf}
-use Rattle.round_trips.proofs.Books.{Good}
-use Rattle.round_trips.proofs.Reading.{read-good, shape-left}
-use Rattle.round_trips.proofs.Theorems.{read-passes-check}
 use Rattle.message.specs.Formed.{isNamed, isPurpose}
 use Rattle.session.specs.declared.Session.{Session}
 use Rattle.session.specs.Calls.{noSession}
@@ -27,11 +22,11 @@ use Rattle.session.specs.Turns.{Ongoing, started, afterTurn, afterTurns}
 use Rattle.session_theory.proofs.Search.{Search, IsSearch}
 use Rattle.session_theory.proofs.Facts.{few}
 use Rattle.demand3.specs.Statement.{Beginning, shapeIn, IsAccepted, Searches, after, HoldsAfter}
-use Rattle.demand3.proofs.Start.{searchOf}
-use Rattle.demand3.proofs.Theorems.{demand-3}
+use Rattle.demand3.proofs.Start.{searchOf, read-search}
+use Rattle.demand3.proofs.Theorems.{demand-3, start-has-room}
 use Rattle.searches.specs.Lowest.{strandsInside}
 use Rattle.searches.specs.Run.{asProcesses, runQuestion, beginning, shapeRun, sentRun, receivedRun, sessionRun, CarriesDemand3}
-use Rattle.searches.proofs.Begin.{starts-with-room, room-inside}
+use Rattle.searches.proofs.Begin.{room-inside}
 use Rattle.searches.proofs.Theorems.{named-purposed}
 
 -- ---- a list of turns
@@ -91,27 +86,19 @@ module _
     unfolding runQuestion
     run-read = then-none (readQuestion bytes sent received) later accepted .0
 
-    is-search : IsSearch g
+    run-asked : (isNamed (shapeIn b .n) (initiator .0) ≡ true) × (isPurpose purpose ≡ true)
     unfolding runQuestion
-    is-search =
-        let good : Good mark (bookRead bytes) = read-good bytes sent received run-read in
-        let counts : List ℕ = countsOf (bookRead bytes .processes) in
-        let asked = named-purposed (shapeIn b .n) initiator purpose
-        (then-none (readQuestion bytes sent received) later accepted .1) in
-        record {
-          long =
-              ap (λ (shape : Shape). length (shape .counts)) (shape-left bytes sent received run-read)
-              ∙ length-padded 16 counts (omega (arith, length-countsOf (bookRead bytes .processes), good .long, good .few));
-          accepted = read-passes-check bytes sent received run-read;
-          named = asked .0;
-          purposed = asked .1;
-        }
+    run-asked =
+        named-purposed (shapeIn b .n) initiator purpose (then-none (readQuestion bytes sent received) later accepted .1)
+
+    is-search : IsSearch g
+    is-search = read-search b run-read (run-asked .0) (run-asked .1)
 
     run-accepted : IsAccepted b
     run-accepted =
         record {
           read = run-read;
-          start = starts-with-room g is-search strandsInside (room-inside (shapeIn b .n) (few g is-search));
+          start = start-has-room b run-read (run-asked .0) (run-asked .1) (room-inside (shapeIn b .n) (few g is-search));
         }
 
     run-holds : Searches b → (turns : List ℕ) → HoldsAfter b (asProcesses turns)

@@ -27,8 +27,8 @@ use Rattle.initiator.specs.declared.Initiator.{Initiator}
 use Rattle.session.proofs.Places.{beyond, at-place}
 use Rattle.session_theory.proofs.Search.{Search, IsSearch, size, viewIn}
 use Rattle.session_theory.proofs.Facts.{few, book-is, line-is}
+use Rattle.demand3.proofs.Purposes.{restarts}
 use Rattle.searches.specs.Parts.{Among}
-use Rattle.searches.proofs.Begin.{restarts}
 use Rattle.searches.proofs.Ends.{endIn}
 
 -- where everybody stands, from a session's parts

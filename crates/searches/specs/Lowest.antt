@@ -35,6 +35,6 @@ module _ (shape : Shape) (sent received : List ℕ) where
         | false ↦ o
       ]
 
-  -- a session from its start to its end, which demand 3's bound suffices for
+  -- a session from its start to its end, which demand 3's bound suffices for (purpose 2 needs only n − 1 turns)
   unfoldable pub searched : Process → ℕ → Ongoing
   searched initiator purpose = toEnd (mostDelivered (viewOf shape sent received)) (started shape sent received initiator purpose strandsInside)

@@ -1,4 +1,4 @@
--- The call `search`: on accepted tables, from its start to its end. "Purposes 1 and 3 search"; with 2 everybody goes to checkpoint
+-- The call `search`: from its start to its end. "Purposes 1 and 3 search"; with 2 everybody goes to checkpoint
 -- 1. The strands lie inside, so that question 17 is not asked.
 use mathlib.Core.Path.{_≡_}
 use mathlib.Core.Bool.{true, false}
@@ -40,7 +40,7 @@ module _ (shape : Shape) (sent received : List ℕ) (initiator : Process) (purpo
   unfoldable pub setSearched : List Checkpoint
   setSearched = unlessRefused refusal noLine (checkpoints (endOf (viewOf shape sent received) purpose))
 
-  -- how many checkpoints are newer than those: T, but with purpose 2
+  -- how many checkpoints are newer than those: T with purpose 1 or 3; with 2, those newer than checkpoint 1
   unfoldable pub passedSearched : ℕ
   passedSearched =
       let v : View = viewOf shape sent received in

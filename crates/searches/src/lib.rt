@@ -21,7 +21,8 @@ ghost use Rattle.searches.specs.Search.{searchQuestion, setSearched, pas
 // How many bytes sixteen processes' strands take: the strands of a search lie inside.
 pub const STRANDS: usize = 1410;
 
-// The answer of `run`: the book's shape, and the session after the turns. Beside a refusal both are all zero.
+// The answer of `run`: the book's shape, and the session after the turns. Beside a refusal both are all zero (and the initiator
+// ended).
 pub struct RunAnswer {
     pub answer: Answer,
     pub shape: Shape,

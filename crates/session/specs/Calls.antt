@@ -56,7 +56,7 @@ strandsStarted shape sent received initiator purpose strands =
 
 -- ---- a turn
 
--- what the turn that names process p delivers
+-- what the turn that names process p comes to: the session after the delivery, and what is put on strands
 abbrev pub turned : Shape → List ℕ → List ℕ → Session → Process → List ℕ → Turned
 turned shape sent received session p strands =
     let k : ℕ = p .0 - 1 in

@@ -54,6 +54,7 @@ initiatorFits shape sent received session =
     && (eqb (session .machine .purpose) (session .purpose)
     && initiator.fits (ownOf shape sent received (initiatorOf session)) (session .machine))
 
+-- (the machine at place k is that of process k + 1: our reading of "fit", beside 01's list)
 unfoldable pub participantFits : Shape → List ℕ → List ℕ → Session → ℕ → Bool
 participantFits shape sent received session k =
     let p : Participant = participantAt session k in
@@ -62,7 +63,7 @@ participantFits shape sent received session k =
     && (eqb (p .purpose) (session .purpose)
     && participant.fits (ownOf shape sent received k) p))
 
--- what waits lies within the strand's slot and within the buffer
+-- what waits lies within the strand's slot and within the buffer: our reading of "fit", beside 01's list
 unfoldable pub strandWithin : ℕ → Session → List ℕ → ℕ → Bool
 strandWithin n session strands k =
     eqb (lengthOn (session .lengths) k) 0
@@ -79,7 +80,8 @@ strandFits session k w =
     -- "while it waits, no participant has ended and no termination waits"
     && (session .machine .ended || (not (isEnded (participantAt session k .stage)) && not (isEnding w))))
 
--- one fixed value at the places of absent processes, and at the initiator's own among the participants: all zero
+-- Our reading of "fit", beside 01's list: one fixed value, all zero, at the places of absent processes and at the initiator's own
+-- among the participants.
 abbrev pub isBefore : Stage → Bool
 isBefore Before = true
 isBefore Searching = false

@@ -53,7 +53,8 @@ isAwaited Ending = false
 isAwaited Report = true
 isAwaited Stray = false
 
--- "no termination waits"; a restart's invitation counts too, but then the initiator does not wait
+-- "no termination waits". A restart's invitation counts here too: with purpose 2 nothing can be awaited, so a waiting initiator
+-- fails 13 in any case.
 abbrev pub isEnding : Waiting → Bool
 isEnding Nothing = false
 isEnding Asking = false

@@ -30,10 +30,11 @@ standsOn session j =
     pick (eqb j (initiatorOf session)) (session .machine .candidate .0) (participantAt session j .candidate .0)
 
 -- "A participant has ended once a termination was delivered to it, the initiator with the call that sends the terminations
--- (with n = 1, the start)."
+-- (with n = 1, the start)." With purpose 2 "the invitation itself ends each participant .., and its sending the initiator".
 abbrev pub hasEnded : Session → ℕ → Bool
 hasEnded session j = pick (eqb j (initiatorOf session)) (session .machine .ended) (isEnded (participantAt session j .stage))
 
--- "Is a message waiting on that strand?"
+-- "A message waits from the start or turn that writes it (`lengthsPosted`) until the turn that delivers it (`deliveredOn`)": its
+-- length is not 0. Question 18: "Is a message waiting on that strand?"
 abbrev pub waitsOn : Session → ℕ → Bool
 waitsOn session k = not (eqb (lengthOn (session .lengths) k) 0)

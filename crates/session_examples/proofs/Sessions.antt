@@ -11,9 +11,13 @@ pub alone : searchedIn (0x01 ∷ 0x03 ∷ []) 1 ≡ ended (3 ∷ []) 0 0
 unfolding computing toEndOnce
 alone = by-once (0x01 ∷ 0x03 ∷ []) 1 (3 ∷ []) 0 0 refl
 
-pub two : searchedIn (0x02 ∷ 0x01 ∷ 0x00 ∷ 0x00 ∷ 0x01 ∷ 0x00 ∷ 0x00 ∷ []) 1 ≡ ended (1 ∷ 1 ∷ []) 1 3
+pub two-by-1 : searchedIn (0x02 ∷ 0x01 ∷ 0x00 ∷ 0x00 ∷ 0x01 ∷ 0x00 ∷ 0x00 ∷ []) 1 ≡ ended (1 ∷ 1 ∷ []) 1 3
 unfolding computing toEndOnce
-two = by-once (0x02 ∷ 0x01 ∷ 0x00 ∷ 0x00 ∷ 0x01 ∷ 0x00 ∷ 0x00 ∷ []) 1 (1 ∷ 1 ∷ []) 1 3 refl
+two-by-1 = by-once (0x02 ∷ 0x01 ∷ 0x00 ∷ 0x00 ∷ 0x01 ∷ 0x00 ∷ 0x00 ∷ []) 1 (1 ∷ 1 ∷ []) 1 3 refl
+
+pub two-by-2 : searchedIn (0x02 ∷ 0x01 ∷ 0x00 ∷ 0x00 ∷ 0x01 ∷ 0x00 ∷ 0x00 ∷ []) 2 ≡ ended (1 ∷ 1 ∷ []) 1 3
+unfolding computing toEndOnce
+two-by-2 = by-once (0x02 ∷ 0x01 ∷ 0x00 ∷ 0x00 ∷ 0x01 ∷ 0x00 ∷ 0x00 ∷ []) 2 (1 ∷ 1 ∷ []) 1 3 refl
 
 pub k1-by-1 : searchedIn k1 1 ≡ ended (1 ∷ 2 ∷ 2 ∷ []) 2 10
 unfolding computing toEndOnce

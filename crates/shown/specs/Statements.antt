@@ -66,7 +66,7 @@ abbrev pub SameBook : Type 0
 SameBook = (v w : View) → SameCounters v w → bookShown v ≡ bookShown w
 
 module _ (shape : Shape) (sent received : List ℕ) where
-  -- sixteen counts, and no question of the tables fails
+  -- sixteen counts, and no question of the tables fails (`passed` is not 01's "passed", which is T)
   pub record AreAccepted : Type 0 where
     pub sixteen : length (shape .counts) ≡ mostProcesses
     pub passed : tablesQuestion shape sent received ≡ 0

@@ -1,5 +1,5 @@
--- Document 01, "Session": "each participant has one strand to the initiator, with at most one message waiting on it." Where
--- the bytes of each strand lie in one lent buffer: a slot for each participant, in rising order, as long as the longest
+-- Document 01, "Session": "each participant has one strand to the initiator, with at most one message waiting on it." 01
+-- leaves open where the bytes lie. Ours: one lent buffer, a slot for each participant, in rising order, as long as the longest
 -- message. Processes and the initiator count from 0.
 use mathlib.Core.Bool.{Bool, not, _||_}
 use mathlib.Core.List.{List}
@@ -21,7 +21,7 @@ headSize = 4
 abbrev pub slotSize : ℕ → ℕ
 slotSize n = headSize + (n - 1) * (1 + groups)
 
--- where process k's slot begins: the initiator has none
+-- where process k's slot begins; the initiator has none, and the value for it is never used
 abbrev pub strandStart : ℕ → ℕ → ℕ → ℕ
 strandStart n initiator k = pick (ltb initiator k) (k - 1) k * slotSize n
 

@@ -1,4 +1,5 @@
 -- The laws of seven-bit numbers, for every number, list of bytes, place, count of groups and limit.
+-- `T b` is the library's "b is true", not document 01's T.
 use mathlib.Core.Path.{_≡_}
 use mathlib.Core.List.{List, _++_}
 use Prim.Native.Nat.{ℕ, _+_, _^_, _≤_, _<_}

@@ -1,4 +1,4 @@
--- Document 01, "The book": a number is written in groups of seven bits, lowest group first, one group a byte; the
+-- Document 01, "The book" (01's own form, not K's): a number is written in groups of seven bits, lowest group first, one group a byte; the
 -- byte's top bit is set when another group follows. Only the shortest form is a number.
 use mathlib.Core.Bool.{Bool, true, false}
 use mathlib.Core.List.{List, [], _∷_}

@@ -9,8 +9,8 @@ fn even_counts(n: usize, total: usize) -> Vec<usize> {
     (0..n).map(|place| total / n + usize::from(place < total % n)).collect()
 }
 
-/// A book in which every counter but those of the oldest checkpoints is large: five bytes each, or one byte each with
-/// `small`. Everything received had been sent, so the line is the newest set.
+/// A book in which every counter but those of the oldest checkpoints takes five bytes, or with `small` one. More was sent
+/// than received everywhere, so the line is the newest set.
 pub fn dense(n: usize, checkpoints: usize, small: bool) -> Book {
     let mut book = Book::of_zeros(&even_counts(n, checkpoints));
     for j in 1..=n {
@@ -29,13 +29,13 @@ pub fn dense(n: usize, checkpoints: usize, small: bool) -> Book {
     book
 }
 
-/// A ring of n processes with this T: as many checkpoints each as needed, the line `held_at` where it divides.
+/// A ring of n processes with this T, a multiple of n; the line is the oldest set.
 pub fn ring_with(n: usize, passed: usize) -> Book {
     ring(n, passed / n + 1, 1)
 }
 
-/// Sixteen processes with sixteen checkpoints each, a run in which everybody talks to everybody: each checkpoint has
-/// received what the others had sent two checkpoints before, but for the last three, which fall.
+/// A run in which everybody talks to everybody: each checkpoint has received what the others had sent two checkpoints
+/// before, but for some of the last three, which have received more than that and fall.
 pub fn typical(n: usize, each: usize) -> Book {
     let mut book = Book::of_zeros(&vec![each; n]);
     for j in 1..=n {
