@@ -165,7 +165,7 @@ uint32_t recovery_line_initiator_receive(uint64_t *state, size_t state_len, cons
  * `strands`: RECOVERY_LINE_MESSAGE_BYTES(n) bytes for each participant, in rising order; every other byte stays.
  * RECOVERY_LINE_STRAND_BYTES(n) bytes always suffice.
  * Questions: the tables', 10, 11, 17.
- * Stack: 39936 bytes. */
+ * Stack: 40960 bytes. */
 uint32_t recovery_line_session_start(const uint64_t *shape, size_t shape_len, const uint32_t *sent, size_t sent_len,
                                      const uint32_t *received, size_t received_len, uint64_t initiator,
                                      uint64_t purpose, uint64_t *session, size_t session_len, uint8_t *strands,
@@ -173,7 +173,7 @@ uint32_t recovery_line_session_start(const uint64_t *shape, size_t shape_len, co
 
 /* A turn: the message that waits on process p's strand is delivered, and the replies wait then.
  * Questions: the tables', 10, 11, 13, 17, 18.
- * Stack: 58368 bytes. */
+ * Stack: 63488 bytes. */
 uint32_t recovery_line_session_turn(uint64_t *session, size_t session_len, const uint64_t *shape, size_t shape_len,
                                     const uint32_t *sent, size_t sent_len, const uint32_t *received,
                                     size_t received_len, uint64_t p, uint8_t *strands, size_t strands_len);
@@ -181,7 +181,7 @@ uint32_t recovery_line_session_turn(uint64_t *session, size_t session_len, const
 /* A search from its start to its end, lowest waiting strand first: where everybody has ended (the line; with purpose 2
  * checkpoint 1), how many checkpoints are newer, and the rounds and messages that it took.
  * Questions: the tables', 10, 11.
- * Stack: 63488 bytes. */
+ * Stack: 54272 bytes. */
 uint32_t recovery_line_search(const uint64_t *shape, size_t shape_len, const uint32_t *sent, size_t sent_len,
                               const uint32_t *received, size_t received_len, uint64_t initiator, uint64_t purpose,
                               uint64_t *line, size_t line_len, uint64_t *passed, uint64_t *rounds, uint64_t *messages);

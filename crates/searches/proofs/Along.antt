@@ -76,15 +76,18 @@ module _ (g : Search) (is : IsSearch g) where
           room = omega (arith, runs .room, long-next g is (InSession g) (kept-in g is) o (runs .holds) p);
         }
 
+    pub next-passes : messageWaits (o .session) ≡ true → questionOf g o (lowestWaiting (o .session)) ≡ 0
+    next-passes waits =
+        let p : Process = lowestWaiting (o .session) in
+        let some : 1 ≤ p .0 = some-found (o .session) waits in
+        room-answers g is (InSession g) (kept-in g is) o (runs .holds) p some
+        (lowest-found (o .session) some .waits) (runs .room)
+
     pub next-counts : messageWaits (o .session) ≡ true → lowestNext o .session .delivered ≡ o .session .delivered + 1
     next-counts waits =
         let p : Process = lowestWaiting (o .session) in
-        let some : 1 ≤ p .0 = some-found (o .session) waits in
-        let passes : questionOf g o p ≡ 0 =
-        room-answers g is (InSession g) (kept-in g is) o (runs .holds) p some
-        (lowest-found (o .session) some .waits) (runs .room) in
         counted g is (InSession g) (kept-in g is) o (runs .holds) p
-        ∙ ap (λ (v : Bool). o .session .delivered + pick v 1 0) (eq-eqb (questionOf g o p) 0 passes)
+        ∙ ap (λ (v : Bool). o .session .delivered + pick v 1 0) (eq-eqb (questionOf g o p) 0 (next-passes waits))
 
   -- ---- to the end
 

@@ -8,20 +8,33 @@ use lib.ListN.{length}
 use Rattle.book.specs.declared.Shape.{Shape}
 use Rattle.book.specs.declared.Process.{Process}
 use Rattle.book.specs.Bounds.{mostProcesses}
+use Rattle.book.specs.Check.{tablesQuestion}
 use Rattle.line_theory.specs.OfTables.{viewOf}
 use Rattle.session.specs.declared.Session.{Session}
-use Rattle.session.specs.Calls.{sessionStarted, strandsStarted}
+use Rattle.session.specs.Calls.{startQuestion, sessionStarted, strandsStarted, turnQuestion}
 use Rattle.session.specs.Turns.{Ongoing, started, afterTurn, afterTurns}
 use Rattle.session_theory.proofs.Search.{Search, IsSearch}
 use Rattle.session_theory.proofs.Facts.{few}
 use Rattle.demand3.specs.Statement.{messageWaits, mostDelivered}
+use Rattle.demand3.proofs.Purposes.{starts-with-room}
 use Rattle.searches.specs.Lowest.{strandsInside, lowestWaiting, toEnd, searched}
 use Rattle.searches.specs.Search.{searchQuestion}
 use Rattle.searches.specs.Parts.{Started}
 use Rattle.searches.proofs.Begin.{startOf, start-delivered, room-inside}
 use Rattle.searches.proofs.Lowest.{found-some, found-none}
-use Rattle.searches.proofs.Along.{Runs, few-delivered, next-runs, next-counts, to-end-more, to-end-done}
+use Rattle.searches.proofs.Along.{Runs, few-delivered, next-runs, next-passes, next-counts, to-end-more, to-end-done}
 use Rattle.searches.proofs.Theorems.{searchIn, is-search, begun-runs}
+
+-- what has started there has accepted tables,
+pub tables-accepted : (shape : Shape) (sent received : List ℕ) (s : Session) (strands : List ℕ) → Started shape sent received s strands
+    → tablesQuestion shape sent received ≡ 0
+tables-accepted shape sent received s strands a =
+    is-search shape sent received (a .initiator) (a .purpose) (a .long) (a .accepted) .accepted
+
+-- and has started on the shape among their rows
+pub started-rows : (shape same : Shape) (sent received : List ℕ) (s : Session) (strands : List ℕ) → same ≡ shape
+    → Started shape sent received s strands → Started same sent received s strands
+started-rows shape same sent received s strands e a = subst (λ (t : Shape). Started t sent received s strands) (sym e) a
 
 module _ (shape : Shape) (sent received : List ℕ) where
   -- where all turns lead from here
@@ -74,6 +87,12 @@ module _ (shape : Shape) (sent received : List ℕ) where
           let first : 1 ≤ p .0 = omega arith in
           found-some (o .session) (subst (λ (q : Process). 1 ≤ q .0) (f .lowest) first)
 
+      -- no question refuses it
+      pub turn-passes : turnQuestion shape sent received (o .session) p (o .strands) ≡ 0
+      turn-passes =
+          subst (λ (q : Process). turnQuestion shape sent received (o .session) q (o .strands) ≡ 0) (sym (f .lowest))
+          (next-passes g (f .is) o (f .runs) waits)
+
       abbrev next : Ongoing
       next = afterTurn shape sent received o p
 
@@ -105,7 +124,7 @@ module _ (shape : Shape) (sent received : List ℕ) where
                 ∙ ap (λ (u : Ongoing). toEnd shape sent received (leftAt (next .session)) u) same-next;
           }
 
-      -- as a call of `turn` leaves it
+      -- as a call of `take_turn` leaves it
       module _
           (s : Session)
           (strands : List ℕ)
@@ -126,6 +145,16 @@ module _ (shape : Shape) (sent received : List ℕ) where
         (found-none (o .session) (sym (ap (λ (q : Process). q .0) (f .lowest)) ∙ none))
 
 -- ---- a session started inside
+
+-- no question refuses its start
+pub starts-inside : (shape : Shape) (sent received : List ℕ) (initiator : Process) (purpose : ℕ) (lent : List ℕ) → lent ≡ strandsInside
+    → length (shape .counts) ≡ mostProcesses → searchQuestion shape sent received initiator purpose ≡ 0
+    → startQuestion shape sent received initiator purpose lent ≡ 0
+starts-inside shape sent received initiator purpose lent inside long accepted =
+    let g : Search = searchIn shape sent received initiator purpose in
+    let is : IsSearch g = is-search shape sent received initiator purpose long accepted in
+    subst (λ (l : List ℕ). startQuestion shape sent received initiator purpose l ≡ 0) (sym inside)
+    (starts-with-room g is strandsInside (room-inside (shape .n) (few g is)))
 
 module _
     (shape : Shape)

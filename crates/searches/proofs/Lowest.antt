@@ -1,5 +1,5 @@
 -- The lowest strand on which a message waits.
-use mathlib.Core.Path.{_≡_, refl, sym, ap, _∙_}
+use mathlib.Core.Path.{_≡_, refl, sym, ap, subst, _∙_}
 use mathlib.Core.Bool.{Bool, true, false, not, true≢false}
 use mathlib.Core.List.{List}
 use Prim.Native.Nat.{ℕ, zero, suc, _+_, _-_, _≤_, _<_}
@@ -64,14 +64,14 @@ module _ (s : Session) where
   quiet : (q : ℕ) → lengthOn (s .lengths) q ≡ 0 → waitsOn s q ≡ false
   quiet q e = ap not (eq-eqb (lengthOn (s .lengths) q) 0 e)
 
-  pub lowest-is : (k : ℕ) → NoneYet (s .lengths) k → k < 16 → (lengthOn (s .lengths) k ≡ 0 → ⊥)
+  lowest-is : (k : ℕ) → NoneYet (s .lengths) k → k < 16 → (lengthOn (s .lengths) k ≡ 0 → ⊥)
       → _≡_ {A = Process} (record { 0 = k + 1 }) (lowestWaiting s)
   lowest-is k n small some =
       let at : lowestFrom 0 16 s ≡ suc k =
       lowest-at k small (λ q before. quiet q (n .none q before)) (ap not (ne-eqb (lengthOn (s .lengths) k) 0 some)) in
       ap {B = Process} (λ (p : ℕ). record { 0 = p }) (add-one k ∙ sym at)
 
-  pub lowest-is-none : (k : ℕ) → NoneYet (s .lengths) k → 16 ≤ k → _≡_ {A = Process} (record { 0 = 0 }) (lowestWaiting s)
+  lowest-is-none : (k : ℕ) → NoneYet (s .lengths) k → 16 ≤ k → _≡_ {A = Process} (record { 0 = 0 }) (lowestWaiting s)
   lowest-is-none k n all =
       let none : lowestFrom 0 16 s ≡ 0 = lowest-nowhere (λ q small. quiet q (n .none q (omega arith))) in
       ap {B = Process} (λ (p : ℕ). record { 0 = p }) (sym none)
@@ -129,3 +129,13 @@ module _ (s : Session) where
         | yes none ↦ absurd (true≢false (sym waits ∙ found-none none))
         | no some ↦ omega arith
       ]
+
+-- so of each session with these lengths
+pub lowest-in : (lengths : List ℕ) (k : ℕ) → NoneYet lengths k → k < 16 → (lengthOn lengths k ≡ 0 → ⊥)
+    → (s : Session) → s .lengths ≡ lengths → _≡_ {A = Process} (record { 0 = k + 1 }) (lowestWaiting s)
+lowest-in lengths k n small some s e =
+    lowest-is s k (subst (λ (l : List ℕ). NoneYet l k) (sym e) n) small (subst (λ (l : List ℕ). (lengthOn l k ≡ 0 → ⊥)) (sym e) some)
+
+pub none-in : (lengths : List ℕ) (k : ℕ) → NoneYet lengths k → 16 ≤ k
+    → (s : Session) → s .lengths ≡ lengths → _≡_ {A = Process} (record { 0 = 0 }) (lowestWaiting s)
+none-in lengths k n all s e = lowest-is-none s k (subst (λ (l : List ℕ). NoneYet l k) (sym e) n) all

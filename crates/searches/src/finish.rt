@@ -17,10 +17,9 @@ ghost use Rattle.searches.specs.Lowest.{lowestWaiting, toEnd};
 ghost use Rattle.searches.specs.Parts.{Started, Among};
 
 // The lowest process on whose strand a message waits; 0 for none.
-fn lowest_waiting(session: Session) -> Process
-    ensures { λ r. ⌜ r ≡ lowestWaiting session ⌝ }
+fn lowest_waiting(lengths: [usize; 16]) -> Process
+    ensures { λ r. ⌜ ((session : Session) → session .lengths ≡ lengths → r ≡ lowestWaiting session) ⌝ }
 {
-    let lengths = session.lengths;
     let mut k = 0;
     while k < book::MOST_PROCESSES {
         if lengths[k] != 0 {
@@ -31,7 +30,8 @@ fn lowest_waiting(session: Session) -> Process
     Process(0)
 }
 
-// Turns until nothing waits. Inner: asks for a session that has just started, with room, since its turns come to an end.
+// Turns until nothing waits. Inner: asks for a session that has just started, with room: no question refuses its turns, and they
+// come to an end.
 pub(crate) fn finish(
     session: Session,
     shape: Shape,
@@ -42,12 +42,14 @@ pub(crate) fn finish(
     requires { ⌜ Started shape (now sent) (now received) session (now strands) ⌝ }
     ensures { λ r. ⌜ r ≡ toEnd shape (now (sent .entry)) (now (received .entry)) (mostDelivered (viewOf shape (now (sent .entry)) (now (received .entry)))) (record { session = session; strands = now (strands .entry) }) .session ⌝ }
 {
+    let rows = book::rows_of(shape);
     let mut next = session;
-    let mut p = lowest_waiting(next);
+    let lengths = next.lengths;
+    let mut p = lowest_waiting(lengths);
     while p.0 != 0 {
-        let answer = turns::turn(next, shape, sent, received, p, strands);
-        next = answer.session;
-        p = lowest_waiting(next);
+        next = turns::take_turn(next, rows, sent, received, p, strands);
+        let lengths = next.lengths;
+        p = lowest_waiting(lengths);
     }
     next
 }

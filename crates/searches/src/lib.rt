@@ -160,8 +160,8 @@ fn start_and_finish(
     ensures { λ r. ⌜ r ≡ searched shape (now (sent .entry)) (now (received .entry)) initiator purpose .session ⌝ }
 {
     let mut strands = strands_inside();
-    let begun = turns::start(shape, sent, received, initiator, purpose, &mut strands);
-    finish::finish(begun.session, shape, sent, received, &mut strands)
+    let begun = turns::take_start(shape, sent, received, initiator, purpose, &mut strands);
+    finish::finish(begun, shape, sent, received, &mut strands)
 }
 
 // A search from its start to its end: turns are taken, lowest waiting strand first, until nothing waits; then everybody has

@@ -64,3 +64,19 @@ module _ {all : Bool} (t rest : Bool) where
 
   pub no-test : all ≡ (t && rest) → t ≡ false → false ≡ all
   no-test e h = sym (e ∙ and-first t rest h)
+
+-- ---- with its strand
+
+module _ (p : Participant) (waits : ℕ) where
+  pub something-waits : (waits ≡ 0 → ⊥) → false ≡ (isAbsent p && eqb waits 0)
+  something-waits h = rw (ne-eqb waits 0 h) (go (isAbsent p))
+    where
+      go : (t : Bool) → false ≡ (t && false)
+      go true = refl
+      go false = refl
+
+  pub not-absent : isAbsent p ≡ false → false ≡ (isAbsent p && eqb waits 0)
+  not-absent h = rw h
+
+  pub nothing-there : isAbsent p ≡ true → waits ≡ 0 → true ≡ (isAbsent p && eqb waits 0)
+  nothing-there h z = rw (h, eq-eqb waits 0 z)

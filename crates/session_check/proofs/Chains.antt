@@ -58,6 +58,14 @@ module _ (a b c d : Bool) where
       go true = refl
       go false = refl
 
+  -- the last passes, and the third decides
+  pub but-last-of-four : {r : Bool} → a ≡ true → b ≡ true → d ≡ true → r ≡ c → r ≡ (a && (b && (c && d)))
+  but-last-of-four h k l e = rw (h, k, l) (e ∙ go c)
+    where
+      go : (t : Bool) → t ≡ (t && true)
+      go true = refl
+      go false = refl
+
 -- a choice
 module _ {A : Type 0} (t : Bool) (a b : A) where
   pub pick-yes : t ≡ true → a ≡ pick t a b

@@ -25,12 +25,13 @@ use Rattle.participant.specs.Calls as participant
 use Rattle.initiator.specs.declared.Initiator.{Initiator}
 use Rattle.initiator.specs.Calls as initiator
 use Rattle.initiator.proofs.Calls.{not-formed}
-use Rattle.strands.specs.Strands.{strandStart, strandBytes}
+use Rattle.strands.specs.Strands.{strandStart, lengthOn, strandBytes}
 use Rattle.session.specs.declared.Session.{Session}
 use Rattle.session.specs.declared.Waiting.{Waiting}
 use Rattle.session.specs.declared.Waiting.the-variants.{Nothing, Asking, Ending, Report, Stray}
 use Rattle.session.specs.Workers.{initiatorOf, participantAt}
-use Rattle.session.specs.Held.{senderIn, endsSearch, heldDown, heldUp, waitingBytes, held}
+use Rattle.session.specs.Held.{senderIn, endsSearch, heldDown, heldUp, isReport, waitingBytes, held}
+use Rattle.session_check.specs.Parts.{bytesOn, heldOf, Told}
 use Rattle.session_check.proofs.Chains.{pick-yes, pick-no}
 
 pub ends-yes : (m : Message) → m .head .purpose ≡ 2 → eqb (m .head .purpose) 2 ≡ endsSearch m
@@ -98,72 +99,98 @@ all-stray true b x y e f = e
 all-stray false true x y e f = f
 all-stray false false x y e f = refl
 
-module _ (n : ℕ) (session : Session) (k : ℕ) (s : List ℕ) where
+-- never a report from the initiator
+down-no-report : (n : ℕ) (p : Participant) (s : List ℕ) → isReport (heldDown n p s) ≡ false
+unfolding heldDown
+down-no-report n p s = go (eqb (down n p s) 0) (endsSearch (participant.readBy n p s))
+  where
+    go : (a b : Bool) → isReport (pick a (pick b Ending Asking) Stray) ≡ false
+    go true true = refl
+    go true false = refl
+    go false b = refl
+
+module _ (n of : ℕ) (p : Participant) (k : ℕ) (s : List ℕ) where
   abbrev fromIt : Bool
-  fromIt = eqb (senderIn s) (session .initiator .0)
+  fromIt = eqb (senderIn s) of
 
   abbrev toIt : Bool
   toIt = eqb (senderIn s) (suc k)
 
   abbrev onDown : Waiting
-  onDown = heldDown n (participantAt session k) s
+  onDown = heldDown n p s
 
-  abbrev onUp : Waiting
-  onUp = heldUp n (session .machine) s
+  abbrev rest : Initiator → Waiting
+  rest m = pick toIt (heldUp n m s) Stray
 
-  abbrev rest : Waiting
-  rest = pick toIt onUp Stray
-
-  pub held-nothing : length s ≡ 0 → Nothing ≡ held n session k s
-  unfolding held
-  held-nothing h = pick-yes (eqb (length s) 0) Nothing (pick fromIt onDown rest) (eq-eqb (length s) 0 h)
+  pub told-nothing : length s ≡ 0 → Told n of p k s Nothing
+  unfolding heldOf
+  told-nothing h = λ m. pick-yes (eqb (length s) 0) Nothing (pick fromIt onDown (rest m)) (eq-eqb (length s) 0 h)
 
   module _ (some : length s ≡ 0 → ⊥) where
-    by-sender : pick fromIt onDown rest ≡ held n session k s
-    unfolding held
-    by-sender = pick-no (eqb (length s) 0) Nothing (pick fromIt onDown rest) (ne-eqb (length s) 0 some)
+    by-sender : (m : Initiator) → pick fromIt onDown (rest m) ≡ heldOf n of p m k s
+    unfolding heldOf
+    by-sender m = pick-no (eqb (length s) 0) Nothing (pick fromIt onDown (rest m)) (ne-eqb (length s) 0 some)
 
     -- no head: whoever gets it, it is not formed
-    pub held-formless : beginFormed n (numbersFrom s 0 .found) ≡ false → Stray ≡ held n session k s
-    held-formless h =
-        let p : Participant = participantAt session k in
-        let m : Initiator = session .machine in
+    pub told-formless : beginFormed n (numbersFrom s 0 .found) ≡ false → Told n of p k s Stray
+    told-formless h =
+        λ m.
         let no-down : Stray ≡ onDown =
         down-stray n p s (λ z. absurd (omega (arith, z, down-formless n p s (no-head n (p .me .0) (p .initiator .0) s h)))) in
-        let no-up : Stray ≡ onUp =
+        let no-up : Stray ≡ heldUp n m s =
         up-stray n m s (λ z. absurd (omega (arith, z, not-formed n m s (no-head n (m .me .0) (m .me .0) s h)))) in
-        all-stray fromIt toIt onDown onUp no-down no-up ∙ by-sender
+        all-stray fromIt toIt onDown (heldUp n m s) no-down no-up ∙ by-sender m
 
     module _ (head : Head) (next : ℕ) (found : HeadFound n s (Found head next)) where
       sender : senderIn s ≡ head .sender .0
       sender = ap (λ (t : Numbers). getD (t .found) 2 0) (found .0)
 
-      pub held-from : {w : Waiting} → head .sender .0 ≡ session .initiator .0 → w ≡ onDown → w ≡ held n session k s
-      held-from h e = e ∙ (pick-yes fromIt onDown rest (eq-eqb (senderIn s) (session .initiator .0) (sender ∙ h)) ∙ by-sender)
+      pub told-from : {w : Waiting} → head .sender .0 ≡ of → w ≡ onDown → Told n of p k s w
+      told-from {w} h e =
+          λ m.
+          sym (pick-no (isReport w) (heldUp n m s) w (ap isReport e ∙ down-no-report n p s))
+          ∙ (e ∙ (pick-yes fromIt onDown (rest m) (eq-eqb (senderIn s) of (sender ∙ h)) ∙ by-sender m))
 
-      module _ (other : head .sender .0 ≡ session .initiator .0 → ⊥) where
-        not-from : rest ≡ held n session k s
-        not-from =
-            pick-no fromIt onDown rest (ne-eqb (senderIn s) (session .initiator .0) (λ z. other (sym sender ∙ z))) ∙ by-sender
+      module _ (other : head .sender .0 ≡ of → ⊥) where
+        not-from : (m : Initiator) → rest m ≡ heldOf n of p m k s
+        not-from m =
+            pick-no fromIt onDown (rest m) (ne-eqb (senderIn s) of (λ z. other (sym sender ∙ z))) ∙ by-sender m
 
-        pub held-strange : (head .sender .0 ≡ k + 1 → ⊥) → Stray ≡ held n session k s
-        held-strange h =
-            pick-no toIt onUp Stray (ne-eqb (senderIn s) (suc k) (λ z. h (sym sender ∙ (z ∙ sym (add-one k))))) ∙ not-from
+        pub told-strange : (head .sender .0 ≡ k + 1 → ⊥) → Told n of p k s Stray
+        told-strange h =
+            λ m.
+            pick-no toIt (heldUp n m s) Stray (ne-eqb (senderIn s) (suc k) (λ z. h (sym sender ∙ (z ∙ sym (add-one k)))))
+            ∙ not-from m
 
-        pub held-to : {w : Waiting} → head .sender .0 ≡ k + 1 → w ≡ onUp → w ≡ held n session k s
-        held-to h e =
-            e ∙ (pick-yes toIt onUp Stray (eq-eqb (senderIn s) (suc k) (sender ∙ (h ∙ add-one k))) ∙ not-from)
+        pub told-report : head .sender .0 ≡ k + 1 → Told n of p k s Report
+        told-report h =
+            λ m. pick-yes toIt (heldUp n m s) Stray (eq-eqb (senderIn s) (suc k) (sender ∙ (h ∙ add-one k))) ∙ not-from m
 
 -- ---- the bytes of a strand
 
-module _ (n : ℕ) (session : Session) (strands : List ℕ) (k : ℕ) where
-  pub no-bytes : getD (session .lengths) k 0 ≡ 0 → length (waitingBytes n session strands k) ≡ 0
-  unfolding strandBytes
+module _ (n of waits : ℕ) (strands : List ℕ) (k : ℕ) where
+  pub no-bytes : waits ≡ 0 → length (bytesOn n of waits strands k) ≡ 0
   no-bytes h = rw h
 
-  pub its-bytes : {at : ℕ} → at ≡ strandStart n (initiatorOf session) k
-      → take (at + getD (session .lengths) k 0 - at) (drop at strands) ≡ waitingBytes n session strands k
-  unfolding strandBytes
+  pub its-bytes : {at : ℕ} → at ≡ strandStart n of k → take (at + waits - at) (drop at strands) ≡ bytesOn n of waits strands k
   its-bytes {at} e =
-      let waits : at + getD (session .lengths) k 0 - at ≡ getD (session .lengths) k 0 = omega arith in
-      rw waits (ap (λ (i : ℕ). take (getD (session .lengths) k 0) (drop i strands)) e)
+      let long : at + waits - at ≡ waits = omega arith in
+      rw long (ap (λ (i : ℕ). take waits (drop i strands)) e)
+
+-- ---- of a session
+
+module _ (n : ℕ) (session : Session) (strands : List ℕ) (k : ℕ) where
+  abbrev its : List ℕ
+  its = bytesOn n (initiatorOf session) (lengthOn (session .lengths) k) strands k
+
+  is-held : heldOf n (session .initiator .0) (participantAt session k) (session .machine) k its ≡ held n session k (waitingBytes n session strands k)
+  unfolding heldOf held strandBytes
+  is-held = refl
+
+  module _ (w : Waiting) (told : Told n (session .initiator .0) (participantAt session k) k its w) where
+    pub held-below : isReport w ≡ false → w ≡ held n session k (waitingBytes n session strands k)
+    held-below h = pick-no (isReport w) (heldUp n (session .machine) its) w h ∙ (told (session .machine) ∙ is-held)
+
+    pub held-above : {up : Waiting} → isReport w ≡ true → up ≡ heldUp n (session .machine) its
+        → up ≡ held n session k (waitingBytes n session strands k)
+    held-above h e = e ∙ (pick-yes (isReport w) (heldUp n (session .machine) its) w h ∙ (told (session .machine) ∙ is-held))

@@ -15,11 +15,9 @@ use Rattle.machine.specs.Given.{Given}
 use Rattle.machine.proofs.Calls.{given-of}
 use Rattle.participant.specs.declared.Participant.{Participant}
 use Rattle.participant.specs.Fits as participant
+use Rattle.initiator.specs.declared.Initiator.{Initiator}
 use Rattle.initiator.specs.Fits as initiator
-use Rattle.session.specs.declared.Session.{Session}
-use Rattle.session.specs.Workers.{initiatorOf}
-use Rattle.session.specs.Fits.{initiatorFits}
-use Rattle.session_check.specs.Parts.{TablesGiven, machineFits}
+use Rattle.session_check.specs.Parts.{TablesGiven, initiatorOn, machineFits}
 use Rattle.session_check.proofs.Chains.{first-of-three, second-of-three, third-of-three, first-of-four, second-of-four, third-of-four, fourth-of-four}
 
 -- what a machine of a process that there is is given
@@ -30,34 +28,31 @@ given-to rows sent received me sixteen given named =
 
 -- ---- the initiator's
 
-module _ (shape : Shape) (sent received : List ℕ) (session : Session) where
+module _ (shape : Shape) (sent received : List ℕ) (of purpose : ℕ) (machine : Initiator) where
   abbrev sameMe : Bool
-  sameMe = eqb (session .machine .me .0) (session .initiator .0)
+  sameMe = eqb (machine .me .0) of
 
   abbrev samePurpose : Bool
-  samePurpose = eqb (session .machine .purpose) (session .purpose)
+  samePurpose = eqb (machine .purpose) purpose
 
   abbrev machineOn : Bool
-  machineOn = initiator.fits (ownOf shape sent received (initiatorOf session)) (session .machine)
+  machineOn = initiator.fits (ownOf shape sent received (of - 1)) machine
 
-  pub other-initiator : (session .machine .me .0 ≡ session .initiator .0 → ⊥) → false ≡ initiatorFits shape sent received session
-  unfolding initiatorFits
-  other-initiator h = first-of-three sameMe samePurpose machineOn (ne-eqb (session .machine .me .0) (session .initiator .0) h)
+  abbrev On : Bool → Type 0
+  On r = r ≡ initiatorOn shape sent received of purpose machine
 
-  module _ (me : session .machine .me .0 ≡ session .initiator .0) where
-    pub other-purpose : (session .machine .purpose ≡ session .purpose → ⊥) → false ≡ initiatorFits shape sent received session
-    unfolding initiatorFits
-    other-purpose h =
-        second-of-three sameMe samePurpose machineOn (eq-eqb (session .machine .me .0) (session .initiator .0) me)
-        (ne-eqb (session .machine .purpose) (session .purpose) h)
+  pub other-initiator : (machine .me .0 ≡ of → ⊥) → On false
+  other-initiator h = first-of-three sameMe samePurpose machineOn (ne-eqb (machine .me .0) of h)
 
-    pub initiator-on : {r : Bool} → session .machine .purpose ≡ session .purpose
-        → r ≡ initiator.fits (ownOf shape sent received (session .machine .me .0 - 1)) (session .machine) → r ≡ initiatorFits shape sent received session
-    unfolding initiatorFits
+  module _ (me : machine .me .0 ≡ of) where
+    pub other-purpose : (machine .purpose ≡ purpose → ⊥) → On false
+    other-purpose h = second-of-three sameMe samePurpose machineOn (eq-eqb (machine .me .0) of me) (ne-eqb (machine .purpose) purpose h)
+
+    pub initiator-on : {r : Bool} → machine .purpose ≡ purpose
+        → r ≡ initiator.fits (ownOf shape sent received (machine .me .0 - 1)) machine → On r
     initiator-on h e =
-        third-of-three sameMe samePurpose machineOn (eq-eqb (session .machine .me .0) (session .initiator .0) me)
-        (eq-eqb (session .machine .purpose) (session .purpose) h)
-        (e ∙ ap (λ (j : ℕ). initiator.fits (ownOf shape sent received (j - 1)) (session .machine)) me)
+        third-of-three sameMe samePurpose machineOn (eq-eqb (machine .me .0) of me) (eq-eqb (machine .purpose) purpose h)
+        (e ∙ ap (λ (j : ℕ). initiator.fits (ownOf shape sent received (j - 1)) machine) me)
 
 -- ---- a participant's
 

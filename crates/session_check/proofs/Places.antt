@@ -1,29 +1,33 @@
 -- Question 13 of a session: each place, and the whole.
 use mathlib.Core.Path.{_≡_, sym, ap, _∙_}
-use mathlib.Core.Bool.{Bool, true, false, _&&_}
+use mathlib.Core.Bool.{Bool, true, false, not, _&&_, true≢false}
 use mathlib.Core.List.{List}
-use Prim.Native.Nat.{ℕ, _≤_, _<_}
+use Prim.Native.Nat.{ℕ, _-_, _≤_, _<_}
 use borrow.Author.Tests.{eq-eqb, ne-eqb, lt-ltb, le-ltb}
 use lib.ListN.{length}
 use lib.Dec.{eqb, ltb}
 use Rattle.book.specs.declared.Shape.{Shape}
 use Rattle.book.proofs.Tests.{and-both}
 use Rattle.line_theory.specs.Over.{allTo}
-use Rattle.message.proofs.Tests.{and-first, and-rest}
+use Rattle.matrix.specs.Matrix.{pick}
 use Rattle.machine.specs.Own.{ownOf}
 use Rattle.machine.specs.Named.{isParticipant, countLimit}
 use Rattle.machine.specs.Flags.{flag}
+use Rattle.participant.specs.declared.Participant.{Participant}
+use Rattle.initiator.specs.declared.Initiator.{Initiator}
+use Rattle.initiator.specs.Calls.{messageQuestion}
 use Rattle.initiator.specs.Fits as initiator
 use Rattle.initiator.proofs.Fitting.{fitting-size}
-use Rattle.strands.specs.Strands.{lengthOn}
+use Rattle.strands.specs.Strands.{lengthOn, strandBytes}
 use Rattle.session.specs.declared.Session.{Session}
 use Rattle.session.specs.declared.Waiting.{Waiting}
 use Rattle.session.specs.Workers.{initiatorOf, participantAt}
-use Rattle.session.specs.Held.{waitingBytes, held}
+use Rattle.session.specs.declared.Waiting.the-variants.{Nothing, Asking, Ending, Report, Stray}
+use Rattle.session.specs.Held.{heldUp, isReport, isStray, held}
 use Rattle.session.specs.Fits.{initiatorFits, participantFits, strandWithin, strandFits, isAbsent, placeFits, sessionFits}
-use Rattle.session_check.specs.Parts.{machineFits, heldFits}
-use Rattle.session_check.proofs.Chains.{pick-yes, pick-no, first-of-three, second-of-three, third-of-three, first-of-four, second-of-four, third-of-four, fourth-of-four, last-of-four}
-use Rattle.session_check.proofs.Strand.{isWithin}
+use Rattle.session_check.specs.Parts.{initiatorOn, machineFits, heldFits, lengthFits, bytesOn, heldOf, withAbove, Told, placeOn, PlaceTold}
+use Rattle.session_check.proofs.Chains.{pick-yes, pick-no, first-of-three, second-of-three, third-of-three, first-of-four, second-of-four, last-of-four, but-last-of-four}
+use Rattle.session_check.proofs.Strand.{above-fits, above-not}
 
 -- a machine that fits is of as many processes as the tables
 pub fitting-machine : (shape : Shape) (sent received : List ℕ) (session : Session) → initiatorFits shape sent received session ≡ true
@@ -35,65 +39,115 @@ fitting-machine shape sent received session h =
     let rest = and-both (eqb (machine .me .0) (session .initiator .0)) _ h .1 in
     fitting-size own machine (and-both (eqb (machine .purpose) (session .purpose)) (initiator.fits own machine) rest .1)
 
+-- what is told of the initiator's machine
+pub begun-told : (shape : Shape) (sent received : List ℕ) (session : Session) {t : Bool}
+    → t ≡ initiatorOn shape sent received (session .initiator .0) (session .purpose) (session .machine) → t ≡ initiatorFits shape sent received session
+unfolding initiatorFits
+begun-told shape sent received session e = e
+
 -- ---- a place
 
-module _ (shape : Shape) (sent received : List ℕ) (session : Session) (strands : List ℕ) (k : ℕ) where
+module _ (shape : Shape) (sent received : List ℕ) (of purpose : ℕ) (p : Participant) (awaited ended : Bool) (waits : ℕ) (strands : List ℕ) (k : ℕ) where
   abbrev there : Bool
-  there = isParticipant (shape .n) (initiatorOf session) k
+  there = isParticipant (shape .n) (of - 1) k
 
   abbrev machineThere : Bool
-  machineThere =
-      machineFits shape sent received (session .initiator .0) (session .purpose) (participantAt session k) k
+  machineThere = machineFits shape sent received of purpose p k
 
   abbrev withinThere : Bool
-  withinThere = isWithin (shape .n) (initiatorOf session) k (lengthOn (session .lengths) k) (length strands)
+  withinThere = lengthFits (shape .n) (of - 1) k waits (length strands)
 
-  abbrev heldThere : Waiting
-  heldThere = held (shape .n) session k (waitingBytes (shape .n) session strands k)
+  abbrev its : List ℕ
+  its = bytesOn (shape .n) (of - 1) waits strands k
 
-  abbrev heldRight : Bool
-  heldRight =
-      heldFits (flag (session .machine .awaited) k) (session .machine .ended) (participantAt session k .stage) heldThere
+  abbrev heldRight : Initiator → Bool
+  heldRight m = heldFits awaited ended (p .stage) (heldOf (shape .n) of p m k its)
 
-  abbrev Place : Bool → Type 0
-  Place r = r ≡ placeFits shape sent received session strands k
+  abbrev Place : Waiting → Type 0
+  Place w = PlaceTold shape sent received of purpose p awaited ended waits strands k w
 
-  abbrev onPlace : Bool
-  onPlace = machineThere && (withinThere && heldRight)
+  abbrev onPlace : Initiator → Bool
+  onPlace m = machineThere && (withinThere && heldRight m)
 
   abbrev noPlace : Bool
-  noPlace = isAbsent (participantAt session k) && eqb (lengthOn (session .lengths) k) 0
+  noPlace = isAbsent p && eqb waits 0
 
-  is-there : there ≡ true → onPlace ≡ placeFits shape sent received session strands k
-  unfolding placeFits participantFits strandWithin strandFits
-  is-there h = pick-yes there onPlace noPlace h
+  abbrev place : Initiator → Bool
+  place m = placeOn shape sent received of purpose p m awaited ended waits strands k
 
-  not-there : there ≡ false → noPlace ≡ placeFits shape sent received session strands k
-  unfolding placeFits participantFits strandWithin strandFits
-  not-there h = pick-no there onPlace noPlace h
+  is-there : there ≡ true → (m : Initiator) → onPlace m ≡ place m
+  unfolding placeOn
+  is-there h m = pick-yes there (onPlace m) noPlace h
 
-  pub place-absent : {absent : Bool} → there ≡ false → absent ≡ isAbsent (participantAt session k) → absent ≡ true
-      → Place (eqb (lengthOn (session .lengths) k) 0)
-  place-absent h e f = sym (and-rest (isAbsent (participantAt session k)) (eqb (lengthOn (session .lengths) k) 0) (sym e ∙ f)) ∙ not-there h
+  not-there : there ≡ false → (m : Initiator) → noPlace ≡ place m
+  unfolding placeOn
+  not-there h m = pick-no there (onPlace m) noPlace h
 
-  pub place-taken : {absent : Bool} → there ≡ false → absent ≡ isAbsent (participantAt session k) → absent ≡ false → Place absent
-  place-taken h e f = f ∙ (sym (and-first (isAbsent (participantAt session k)) (eqb (lengthOn (session .lengths) k) 0) (sym e ∙ f)) ∙ not-there h)
+  pub place-absent : (w : Waiting) → there ≡ false → not (isStray w) ≡ noPlace → isReport w ≡ false → Place w
+  place-absent w h e f =
+      λ m.
+      ap (λ (v : Waiting). not (isStray v)) (sym (pick-no (isReport w) (heldUp (shape .n) m its) w f)) ∙ (e ∙ not-there h m)
 
   module _ (h : there ≡ true) where
-    pub place-machine : machineThere ≡ false → Place false
-    place-machine m = first-of-three machineThere withinThere heldRight m ∙ is-there h
+    pub place-machine : machineThere ≡ false → Place Stray
+    place-machine f = λ m. first-of-three machineThere withinThere (heldRight m) f ∙ is-there h m
 
-    pub place-within : machineThere ≡ true → withinThere ≡ false → Place false
-    place-within m w = second-of-three machineThere withinThere heldRight m w ∙ is-there h
+    module _ (fits : machineThere ≡ true) where
+      pub place-within : withinThere ≡ false → Place Stray
+      place-within f = λ m. second-of-three machineThere withinThere (heldRight m) fits f ∙ is-there h m
 
-    pub place-held : {r : Bool} {w : Waiting} → machineThere ≡ true → withinThere ≡ true → w ≡ heldThere
-        → r ≡ heldFits (flag (session .machine .awaited) k) (session .machine .ended) (participantAt session k .stage) w → Place r
-    place-held m w e f =
-        third-of-three machineThere withinThere heldRight m w
-        (f
-        ∙ ap
-        (λ (v : Waiting). heldFits (flag (session .machine .awaited) k) (session .machine .ended) (participantAt session k .stage) v) e)
-        ∙ is-there h
+      module _ (within : withinThere ≡ true) (w : Waiting) (told : Told (shape .n) of p k its w) where
+        by-held : (m : Initiator) {r : Bool} → r ≡ heldFits awaited ended (p .stage) (withAbove (shape .n) m its w) → r ≡ place m
+        by-held m e =
+            third-of-three machineThere withinThere (heldRight m) fits within
+            (e ∙ ap (λ (v : Waiting). heldFits awaited ended (p .stage) v) (told m))
+            ∙ is-there h m
+
+        pub place-not : heldFits awaited ended (p .stage) w ≡ false → Place Stray
+        unfolding heldUp
+        place-not f = λ m. by-held m (above-not awaited ended (p .stage) w (eqb (messageQuestion (shape .n) m its) 0) f)
+
+        pub place-held : heldFits awaited ended (p .stage) w ≡ true → Place w
+        unfolding heldUp
+        place-held f = λ m. by-held m (above-fits awaited ended (p .stage) w (eqb (messageQuestion (shape .n) m its) 0) f)
+
+-- ---- a place of a session
+
+told-stray : (w up : Waiting) {f : Bool} → not (isStray (pick (isReport w) up w)) ≡ f → isStray w ≡ true → f ≡ false
+told-stray Nothing up e h = absurd (true≢false (sym h))
+told-stray Asking up e h = absurd (true≢false (sym h))
+told-stray Ending up e h = absurd (true≢false (sym h))
+told-stray Report up e h = absurd (true≢false (sym h))
+told-stray Stray up e h = sym e
+
+module _ (shape : Shape) (sent received : List ℕ) (session : Session) (strands : List ℕ) (k : ℕ) where
+  abbrev Its : Waiting → Type 0
+  Its w =
+      PlaceTold shape sent received (session .initiator .0) (session .purpose) (participantAt session k) (flag (session .machine .awaited) k) (session .machine .ended)
+      (lengthOn (session .lengths) k)
+      strands
+      k
+      w
+
+  abbrev atInitiator : Waiting
+  atInitiator = heldUp (shape .n) (session .machine) (bytesOn (shape .n) (initiatorOf session) (lengthOn (session .lengths) k) strands k)
+
+  module _ (w : Waiting) (told : Its w) where
+    is-told : not (isStray (pick (isReport w) atInitiator w)) ≡ placeFits shape sent received session strands k
+    unfolding placeFits participantFits strandWithin strandFits placeOn heldOf held strandBytes
+    is-told = told (session .machine)
+
+    pub fit-stray : isStray w ≡ true → placeFits shape sent received session strands k ≡ false
+    fit-stray h = told-stray w atInitiator is-told h
+
+    pub fit-other : isStray w ≡ false → isReport w ≡ false → placeFits shape sent received session strands k ≡ true
+    fit-other h f = sym is-told ∙ (ap (λ (v : Waiting). not (isStray v)) (sym (pick-no (isReport w) atInitiator w f)) ∙ ap not h)
+
+    pub fit-report : {up : Waiting} {t : Bool} → isReport w ≡ true → up ≡ atInitiator → isStray up ≡ t
+        → placeFits shape sent received session strands k ≡ not t
+    fit-report h e f =
+        sym is-told
+        ∙ (ap (λ (v : Waiting). not (isStray v)) (sym (pick-yes (isReport w) atInitiator w h) ∙ sym e) ∙ ap not f)
 
 -- ---- the session
 
@@ -130,10 +184,6 @@ module _ (shape : Shape) (sent received : List ℕ) (session : Session) (strands
       unfolding sessionFits
       too-many m = last-of-four sized begun places counted its-size h (le-ltb (session .delivered) countLimit m)
 
-      pub place-not : places ≡ false → Whole false
+      pub as-places : {r : Bool} → session .delivered < countLimit → r ≡ places → Whole r
       unfolding sessionFits
-      place-not m = third-of-four sized begun places counted its-size h m
-
-      pub all-fit : places ≡ true → session .delivered < countLimit → Whole true
-      unfolding sessionFits
-      all-fit m l = fourth-of-four sized begun places counted its-size h m (sym (lt-ltb (session .delivered) countLimit l))
+      as-places l e = but-last-of-four sized begun places counted its-size h (lt-ltb (session .delivered) countLimit l) e

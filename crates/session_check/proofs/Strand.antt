@@ -3,15 +3,17 @@ use mathlib.Core.Path.{_≡_, refl, sym, ap, _∙_}
 use mathlib.Core.Bool.{Bool, true, false, not, _&&_, _||_}
 use Prim.Native.Nat.{ℕ, _+_, _≤_, _<_}
 use borrow.Author.Tests.{eq-eqb, ne-eqb, le-leb, lt-leb, leb-true}
-use lib.Dec.{eqb, leb}
+use lib.Dec.{leb}
+use Rattle.matrix.specs.Matrix.{pick}
 use Rattle.book.proofs.Tests.{and-both}
 use Rattle.message.proofs.Tests.{and-first, and-rest}
 use Rattle.participant.specs.declared.Stage.{Stage}
 use Rattle.strands.specs.Strands.{slotSize, strandStart}
 use Rattle.session.specs.declared.Waiting.{Waiting}
-use Rattle.session.specs.declared.Waiting.the-variants.{Nothing, Asking, Ending, Report}
+use Rattle.session.specs.declared.Waiting.the-variants.{Nothing, Asking, Ending, Report, Stray}
 use Rattle.session.specs.Workers.{isEnded}
-use Rattle.session_check.specs.Parts.{heldFits}
+use Rattle.session.specs.Held.{isReport, isStray}
+use Rattle.session_check.specs.Parts.{lengthFits, heldFits}
 
 -- ---- within
 
@@ -19,8 +21,8 @@ module _ (n initiator k waits room : ℕ) where
   abbrev start : ℕ
   start = strandStart n initiator k
 
-  abbrev pub isWithin : Bool
-  isWithin = eqb waits 0 || (leb waits (slotSize n) && leb (start + waits) room)
+  abbrev isWithin : Bool
+  isWithin = lengthFits n initiator k waits room
 
   pub none-waits : waits ≡ 0 → true ≡ isWithin
   none-waits h = rw (eq-eqb waits 0 h)
@@ -82,3 +84,31 @@ module _ (awaited ended : Bool) (stage : Stage) (w : Waiting) where
       go true s = refl
       go false true = refl
       go false false = refl
+
+  -- where it is a report, it is one or stray at the initiator
+  abbrev above : Bool → Waiting
+  above b = pick (isReport w) (pick b Report Stray) w
+
+  pub above-fits : (b : Bool) → heldFits awaited ended stage w ≡ true → not (isStray (above b)) ≡ heldFits awaited ended stage (above b)
+  above-fits b h = go w b h
+    where
+      go : (w : Waiting) (b : Bool) → heldFits awaited ended stage w ≡ true
+          → not (isStray (pick (isReport w) (pick b Report Stray) w)) ≡ heldFits awaited ended stage (pick (isReport w) (pick b Report Stray) w)
+      go Nothing b h = sym h
+      go Asking b h = sym h
+      go Ending b h = sym h
+      go Report true h = sym h
+      go Report false h = refl
+      go Stray b h = refl
+
+  pub above-not : (b : Bool) → heldFits awaited ended stage w ≡ false → false ≡ heldFits awaited ended stage (above b)
+  above-not b h = go w b h
+    where
+      go : (w : Waiting) (b : Bool) → heldFits awaited ended stage w ≡ false
+          → false ≡ heldFits awaited ended stage (pick (isReport w) (pick b Report Stray) w)
+      go Nothing b h = sym h
+      go Asking b h = sym h
+      go Ending b h = sym h
+      go Report true h = sym h
+      go Report false h = refl
+      go Stray b h = refl

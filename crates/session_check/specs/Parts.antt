@@ -3,9 +3,9 @@
 use mathlib.Core.Path.{_≡_}
 use mathlib.Core.Bool.{Bool, not, _&&_, _||_}
 use mathlib.Core.List.{List}
-use Prim.Native.Nat.{ℕ, suc}
-use lib.ListN.{getD}
-use lib.Dec.{eqb}
+use Prim.Native.Nat.{ℕ, suc, _+_, _-_}
+use lib.ListN.{length, take, drop, getD}
+use lib.Dec.{leb, eqb}
 use Rattle.book.specs.declared.TableRows.{TableRows}
 use Rattle.book.specs.declared.Shape.{Shape}
 use Rattle.book.specs.View.{firstRows}
@@ -13,15 +13,19 @@ use Rattle.book.specs.Check.{tablesQuestion}
 use Rattle.matrix.specs.Matrix.{pick}
 use Rattle.message.specs.Formed.{isPurpose}
 use Rattle.machine.specs.Own.{ownOf}
-use Rattle.machine.specs.Named.{participantNamed}
+use Rattle.machine.specs.Named.{participantNamed, isParticipant}
 use Rattle.participant.specs.declared.Participant.{Participant}
 use Rattle.participant.specs.declared.Stage.{Stage}
 use Rattle.participant.specs.Fits.{fits}
 use Rattle.participant.specs.Calls.{noParticipant}
+use Rattle.initiator.specs.declared.Initiator.{Initiator}
+use Rattle.initiator.specs.Fits as initiator
+use Rattle.strands.specs.Strands.{slotSize, strandStart}
 use Rattle.session.specs.declared.Waiting.{Waiting}
+use Rattle.session.specs.declared.Waiting.the-variants.{Nothing, Stray}
 use Rattle.session.specs.Workers.{isEnded}
-use Rattle.session.specs.Held.{isAwaited, isEnding, isStray}
-use Rattle.session.specs.Fits.{atParticipants}
+use Rattle.session.specs.Held.{senderIn, heldDown, heldUp, isAwaited, isEnding, isReport, isStray}
+use Rattle.session.specs.Fits.{atParticipants, isAbsent}
 
 -- the rows of accepted tables
 pub record TablesGiven (rows : TableRows) (sent received : List ℕ) : Type 0 where
@@ -40,6 +44,12 @@ allNamed n initiator participants =
 abbrev pub allPurposes : ℕ → ℕ → List Participant → Bool
 allPurposes n initiator participants = atParticipants n initiator (λ k. isPurpose (at participants k .purpose))
 
+-- 13 of the initiator's machine
+abbrev pub initiatorOn : Shape → List ℕ → List ℕ → ℕ → ℕ → Initiator → Bool
+initiatorOn shape sent received of purpose machine =
+    eqb (machine .me .0) of
+    && (eqb (machine .purpose) purpose && initiator.fits (ownOf shape sent received (of - 1)) machine)
+
 -- 13 of a participant's machine at place k
 abbrev pub machineFits : Shape → List ℕ → List ℕ → ℕ → ℕ → Participant → ℕ → Bool
 machineFits shape sent received initiator purpose p k =
@@ -51,3 +61,41 @@ abbrev pub heldFits : Bool → Bool → Stage → Waiting → Bool
 heldFits awaited ended stage w =
     not (isStray w)
     && (pick (isAwaited w) awaited (not awaited) && (ended || (not (isEnded stage) && not (isEnding w))))
+
+-- what waits lies within its slot and within a buffer of so many bytes
+abbrev pub lengthFits : ℕ → ℕ → ℕ → ℕ → ℕ → Bool
+lengthFits n initiator k waits room =
+    eqb waits 0 || (leb waits (slotSize n) && leb (strandStart n initiator k + waits) room)
+
+-- the bytes that wait, so many
+abbrev pub bytesOn : ℕ → ℕ → ℕ → List ℕ → ℕ → List ℕ
+bytesOn n initiator waits strands k = take waits (drop (strandStart n initiator k) strands)
+
+-- what bytes on the strand between a participant and the initiator are
+unfoldable pub heldOf : ℕ → ℕ → Participant → Initiator → ℕ → List ℕ → Waiting
+heldOf n of p machine k s =
+    pick (eqb (length s) 0) Nothing
+    (pick (eqb (senderIn s) of) (heldDown n p s) (pick (eqb (senderIn s) (suc k)) (heldUp n machine s) Stray))
+
+-- what is told of them without the initiator's machine: a report is what it is at the initiator
+abbrev pub withAbove : ℕ → Initiator → List ℕ → Waiting → Waiting
+withAbove n machine s w = pick (isReport w) (heldUp n machine s) w
+
+abbrev pub Told : ℕ → ℕ → Participant → ℕ → List ℕ → Waiting → Type 0
+Told n of p k s w = (machine : Initiator) → withAbove n machine s w ≡ heldOf n of p machine k s
+
+-- 13 of the place of process k
+unfoldable pub placeOn : Shape → List ℕ → List ℕ → ℕ → ℕ → Participant → Initiator → Bool → Bool → ℕ → List ℕ → ℕ → Bool
+placeOn shape sent received of purpose p machine awaited ended waits strands k =
+    pick (isParticipant (shape .n) (of - 1) k)
+    (machineFits shape sent received of purpose p k
+    && (lengthFits (shape .n) (of - 1) k waits (length strands)
+    && heldFits awaited ended (p .stage) (heldOf (shape .n) of p machine k (bytesOn (shape .n) (of - 1) waits strands k))))
+    (isAbsent p && eqb waits 0)
+
+-- and what is told of it: stray if it does not fit
+abbrev pub PlaceTold : Shape → List ℕ → List ℕ → ℕ → ℕ → Participant → Bool → Bool → ℕ → List ℕ → ℕ → Waiting → Type 0
+PlaceTold shape sent received of purpose p awaited ended waits strands k w =
+    (machine : Initiator)
+    → not (isStray (withAbove (shape .n) machine (bytesOn (shape .n) (of - 1) waits strands k) w))
+    ≡ placeOn shape sent received of purpose p machine awaited ended waits strands k

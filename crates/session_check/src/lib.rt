@@ -6,18 +6,23 @@ use book::Counter;
 use book::Process;
 use book::TableRows;
 pub use held::held_on;
+use initiator::Initiator;
 use participant::Participant;
 use participant::Stage;
 use session::Session;
 use session::Waiting;
 ghost use mathlib.Core.Path.{_≡_};
-ghost use mathlib.Core.Bool.{_&&_, _||_};
+ghost use mathlib.Core.Bool.{true, false, not, _&&_};
 ghost use Prim.Native.Nat.{_+_, _-_, _≤_, _<_};
-ghost use lib.Dec.{leb, eqb};
-ghost use Rattle.strands.specs.Strands.{slotSize, strandStart};
+ghost use lib.ListN.{length};
+ghost use lib.Dec.{eqb};
+ghost use Rattle.book.specs.Bounds.{mostProcesses};
+ghost use Rattle.line_theory.specs.Over.{allTo};
+ghost use Rattle.strands.specs.Strands.{strandStart};
 ghost use Rattle.session.specs.Workers.{isEnded};
-ghost use Rattle.session.specs.Fits.{sessionNamed, sessionPurposes, initiatorFits, isAbsent, isBefore, placeFits, sessionFits};
-ghost use Rattle.session_check.specs.Parts.{TablesGiven, allNamed, allPurposes, machineFits, heldFits};
+ghost use Rattle.session.specs.Held.{isReport, isStray};
+ghost use Rattle.session.specs.Fits.{sessionNamed, sessionPurposes, isAbsent, isBefore, placeFits, sessionFits};
+ghost use Rattle.session_check.specs.Parts.{TablesGiven, allNamed, allPurposes, initiatorOn, machineFits, lengthFits, heldFits, PlaceTold};
 
 // Are the processes named by the participants' machines, and is each another process than the initiator?
 fn all_named(n: usize, initiator: Process, participants: [Participant; 16]) -> bool
@@ -90,18 +95,23 @@ pub fn purposes(session: Session, n: usize) -> bool
 }
 
 // Does the initiator's machine fit, and is it the session's?
-fn initiator_fits(session: Session, rows: TableRows, sent: &[Counter], received: &[Counter]) -> bool
+fn initiator_fits(
+    rows: TableRows,
+    sent: &[Counter],
+    received: &[Counter],
+    initiator: Process,
+    purpose: u64,
+    machine: Initiator,
+) -> bool
     requires { ⌜ TablesGiven rows (now sent) (now received) ⌝ }
-    requires { ⌜ (1 ≤ session .initiator .0) × (session .initiator .0 ≤ rows .shape .n) ⌝ }
-    ensures { λ r. ⌜ r ≡ initiatorFits (rows .shape) (now (sent .entry)) (now (received .entry)) session ⌝ }
+    requires { ⌜ (1 ≤ initiator .0) × (initiator .0 ≤ rows .shape .n) ⌝ }
+    ensures { λ r. ⌜ r ≡ initiatorOn (rows .shape) (now (sent .entry)) (now (received .entry)) (initiator .0) purpose machine ⌝ }
 {
-    let initiator = session.initiator;
-    let machine = session.machine;
     let me = machine.me;
     if me.0 != initiator.0 {
         return false;
     }
-    if machine.purpose != session.purpose {
+    if machine.purpose != purpose {
         return false;
     }
     machine.fits(rows, sent, received)
@@ -139,7 +149,7 @@ fn machine_fits(
 fn within(n: usize, initiator: usize, k: usize, waits: usize, room: usize) -> bool
     requires { ⌜ (1 ≤ n) × (n ≤ 16) ⌝ }
     requires { ⌜ k < 16 ⌝ }
-    ensures { λ r. ⌜ r ≡ (eqb waits 0 || (leb waits (slotSize n) && leb (strandStart n initiator k + waits) room)) ⌝ }
+    ensures { λ r. ⌜ r ≡ lengthFits n initiator k waits room ⌝ }
 {
     if waits == 0 {
         return true;
@@ -221,41 +231,104 @@ fn is_absent(p: Participant) -> bool
     matrix::same(column, none)
 }
 
-// Does the place of process k fit, with its strand?
-fn place_fits(
+// What the strand of a place that is no participant's holds: nothing; stray where it does not fit.
+fn absent_holds(p: Participant, waits: usize) -> Waiting
+    ensures { λ r. ⌜ (not (isStray r) ≡ (isAbsent p && eqb waits 0)) × (isReport r ≡ false) ⌝ }
+{
+    if waits != 0 {
+        return Waiting::Stray;
+    }
+    if !is_absent(p) {
+        return Waiting::Stray;
+    }
+    Waiting::Nothing
+}
+
+// What the strand of process k's place holds, a report only if it passes at the initiator; stray where the place does not fit.
+fn place_holds(
+    rows: TableRows,
+    sent: &[Counter],
+    received: &[Counter],
+    initiator: Process,
+    purpose: u64,
+    p: Participant,
+    awaited: bool,
+    ended: bool,
+    waits: usize,
+    strands: &[u8],
+    k: usize,
+) -> Waiting
+    requires { ⌜ TablesGiven rows (now sent) (now received) ⌝ }
+    requires { ⌜ (1 ≤ initiator .0) × (k < 16) ⌝ }
+    ensures { λ r. ⌜ PlaceTold (rows .shape) (now (sent .entry)) (now (received .entry)) (initiator .0) purpose p awaited ended waits (now (strands .entry)) k r ⌝ }
+    ensures { λ r. ⌜ (isReport r ≡ true → strandStart (rows .shape .n) (initiator .0 - 1) k + waits ≤ length (now (strands .entry))) ⌝ }
+{
+    let shape = rows.shape;
+    let n = shape.n;
+    let stage = p.stage;
+    if !machine::is_participant(n, initiator.0 - 1, k) {
+        return absent_holds(p, waits);
+    }
+    if !machine_fits(rows, sent, received, initiator, purpose, p, k) {
+        return Waiting::Stray;
+    }
+    if !within(n, initiator.0 - 1, k, waits, strands.len()) {
+        return Waiting::Stray;
+    }
+    let w = held::below(n, initiator, p, waits, strands, k);
+    if !held_fits(awaited, ended, stage, w) {
+        return Waiting::Stray;
+    }
+    w
+}
+
+// Does each place fit, with its strand?
+fn places_fit(
     session: Session,
     rows: TableRows,
     sent: &[Counter],
     received: &[Counter],
     strands: &[u8],
-    k: usize,
 ) -> bool
     requires { ⌜ TablesGiven rows (now sent) (now received) ⌝ }
-    requires { ⌜ (1 ≤ session .initiator .0) × (session .initiator .0 ≤ rows .shape .n) ⌝ }
+    requires { ⌜ 1 ≤ session .initiator .0 ⌝ }
     requires { ⌜ session .machine .n ≡ rows .shape .n ⌝ }
-    requires { ⌜ k < 16 ⌝ }
-    ensures { λ r. ⌜ r ≡ placeFits (rows .shape) (now (sent .entry)) (now (received .entry)) session (now (strands .entry)) k ⌝ }
+    ensures { λ r. ⌜ r ≡ allTo mostProcesses (placeFits (rows .shape) (now (sent .entry)) (now (received .entry)) session (now (strands .entry))) ⌝ }
 {
     let shape = rows.shape;
-    let n = shape.n;
     let initiator = session.initiator;
-    let participants = session.participants;
-    let lengths = session.lengths;
     let machine = session.machine;
     let awaited = machine.awaited;
-    let p = participants[k];
-    let stage = p.stage;
-    if !machine::is_participant(n, initiator.0 - 1, k) {
-        return is_absent(p) && lengths[k] == 0;
+    let participants = session.participants;
+    let lengths = session.lengths;
+    let mut k = 0;
+    while k < book::MOST_PROCESSES {
+        let p = participants[k];
+        let waits = lengths[k];
+        let w = place_holds(
+            rows,
+            sent,
+            received,
+            initiator,
+            session.purpose,
+            p,
+            awaited[k],
+            machine.ended,
+            waits,
+            strands,
+            k,
+        );
+        if held::is_stray(w) {
+            return false;
+        }
+        if held::is_report(w)
+            && held::is_stray(held::above(shape.n, initiator, machine, waits, strands, k))
+        {
+            return false;
+        }
+        k += 1;
     }
-    if !machine_fits(rows, sent, received, initiator, session.purpose, p, k) {
-        return false;
-    }
-    if !within(n, initiator.0 - 1, k, lengths[k], strands.len()) {
-        return false;
-    }
-    let w = held_on(session, n, strands, k);
-    held_fits(awaited[k], machine.ended, stage, w)
+    true
 }
 
 // Does the session fit the tables (question 13)?
@@ -271,21 +344,16 @@ pub fn fits(
     ensures { λ r. ⌜ r ≡ sessionFits (rows .shape) (now (sent .entry)) (now (received .entry)) session (now (strands .entry)) ⌝ }
 {
     let shape = rows.shape;
+    let initiator = session.initiator;
+    let machine = session.machine;
     if session.n != shape.n {
         return false;
     }
-    if !initiator_fits(session, rows, sent, received) {
+    if !initiator_fits(rows, sent, received, initiator, session.purpose, machine) {
         return false;
     }
     if machine::COUNT_LIMIT <= session.delivered {
         return false;
     }
-    let mut k = 0;
-    while k < book::MOST_PROCESSES {
-        if !place_fits(session, rows, sent, received, strands, k) {
-            return false;
-        }
-        k += 1;
-    }
-    true
+    places_fit(session, rows, sent, received, strands)
 }

@@ -7,7 +7,8 @@ use Rattle.book.specs.declared.Process.{Process}
 use Rattle.book.specs.declared.Shape.{Shape}
 use Rattle.book.specs.InTurn.{_then_, ask, answerTo}
 use Rattle.book.specs.Check.{tablesQuestion}
-use Rattle.book.proofs.Questions.{then-none, asked-yes}
+use mathlib.Core.Bool.{true}
+use Rattle.book.proofs.Questions.{then-none, asked-yes, kept-passed}
 use Rattle.message.specs.Formed.{isNamed, isPurpose}
 use Rattle.message.proofs.Heads.{named-in}
 use Rattle.strands.specs.Strands.{haveRoom, posted}
@@ -96,3 +97,30 @@ module _ (shape : Shape) (sent received : List ℕ) (initiator : Process) (purpo
   pub start-initiator : (turned : Turned) → turned ≡ first → 1 ≤ initiator .0 → 1 ≤ turned .session .initiator .0
   unfolding begun
   start-initiator turned e h = subst (λ (t : Turned). 1 ≤ t .session .initiator .0) (sym e) h
+
+  -- a start that no question refuses
+  module _ (none : asked ≡ 0) where
+    parts-none : (tables ≡ 0) × ((named then λ _. room) ≡ 0)
+    parts-none = then-none tables (λ _. named then λ _. room) (sym by-parts ∙ none)
+
+    pub tables-none : tables ≡ 0
+    tables-none = parts-none .0
+
+    pub named-none : named ≡ 0
+    named-none = then-none named (λ _. room) (parts-none .1) .0
+
+    module _ (turned : Turned) (e : turned ≡ first) where
+      pub started-room : haveRoom (shape .n) (turned .session .initiator .0 - 1) (turned .outgoing) strands ≡ true
+      unfolding begun
+      started-room =
+          ap (λ (t : Turned). haveRoom (shape .n) (t .session .initiator .0 - 1) (t .outgoing) strands) e
+          ∙ asked-yes 16 (haveRoom (shape .n) (initiator .0 - 1) (first .outgoing) strands) (then-none named (λ _. room) (parts-none .1) .1)
+
+      pub started-taken : (after : Session) (bytes : List ℕ) → after ≡ withPosted turned → bytes ≡ strandsWith (shape .n) turned strands
+          → (after ≡ sessionStarted shape sent received initiator purpose strands)
+          × (bytes ≡ strandsStarted shape sent received initiator purpose strands)
+      unfolding begun sessionStarted strandsStarted
+      started-taken after bytes f g = (
+        f ∙ ap withPosted e ∙ sym (kept-passed asked noSession (withPosted first) none),
+        g ∙ ap (λ (t : Turned). strandsWith (shape .n) t strands) e ∙ sym (kept-passed asked strands written none),
+      )

@@ -15,7 +15,7 @@ use Rattle.book.specs.InTurn.{_then_, ask, answerTo}
 use Rattle.book.specs.Check.{tablesQuestion}
 use Rattle.book.specs.View.{firstRows}
 use Rattle.book.proofs.Tests.{and-both, both-and}
-use Rattle.book.proofs.Questions.{then-none, then-passed, asked-yes, ask-yes}
+use Rattle.book.proofs.Questions.{then-none, then-passed, asked-yes, ask-yes, kept-passed}
 use Rattle.line_theory.specs.Over.{allTo, tabFrom}
 use Rattle.message.specs.declared.Head.{Head}
 use Rattle.message.specs.Formed.{isNamed}
@@ -190,13 +190,14 @@ module _ (shape : Shape) (sent received : List ℕ) (session : Session) (p : Pro
           only true b h = rw h
           only false b h = refl
 
-  pub turn-initiator : (done : Turned) → done ≡ next → 1 ≤ session .initiator .0 → 1 ≤ done .session .initiator .0
-  turn-initiator done e h =
-      let same : done .session .initiator ≡ session .initiator =
+  same-done : (done : Turned) → done ≡ next → done .session .initiator ≡ session .initiator
+  same-done done e =
       ap (λ (t : Turned). t .session .initiator) e
       ∙ same-initiator shape sent received session place (waitingBytes (shape .n) session strands place)
-      (held (shape .n) session place (waitingBytes (shape .n) session strands place)) in
-      subst (λ (t : Process). 1 ≤ t .0) (sym same) h
+      (held (shape .n) session place (waitingBytes (shape .n) session strands place))
+
+  pub turn-initiator : (done : Turned) → done ≡ next → 1 ≤ session .initiator .0 → 1 ≤ done .session .initiator .0
+  turn-initiator done e h = subst (λ (t : Process). 1 ≤ t .0) (sym (same-done done e)) h
 
   -- ---- what passed questions say
 
@@ -211,3 +212,31 @@ module _ (shape : Shape) (sent received : List ℕ) (session : Session) (p : Pro
         let after-names = then-none (ask 10 names) _ fits .1 in
         asked-yes 12 (sessionFits shape sent received session strands)
         (then-none (ask 11 (sessionPurposes (shape .n) session)) (λ _. ask 13 (sessionFits shape sent received session strands)) after-names .1)
+
+  -- ---- a turn that no question refuses
+
+  module _ (none : asked ≡ 0) where
+    parts-none : (tables ≡ 0) × ((of-session then λ _. last) ≡ 0)
+    parts-none = then-none tables (λ _. of-session then λ _. last) (sym by-parts ∙ none)
+
+    pub session-none : of-session ≡ 0
+    session-none = then-none of-session (λ _. last) (parts-none .1) .0
+
+    last-none : (ask 17 has-room ≡ 0) × (ask 18 waits ≡ 0)
+    last-none = then-none (ask 17 has-room) (λ _. ask 18 waits) (then-none of-session (λ _. last) (parts-none .1) .1)
+
+    pub none-waits : (lengthOn (session .lengths) place ≡ 0 → ⊥)
+    none-waits = eqb-false (lengthOn (session .lengths) place) 0 (not-true (eqb (lengthOn (session .lengths) place) 0) (asked-yes 17 waits (last-none .1)))
+
+    module _ (done : Turned) (e : done ≡ next) where
+      pub taken-room : haveRoom (shape .n) (done .session .initiator .0 - 1) (done .outgoing) strands ≡ true
+      taken-room =
+          (λ i. haveRoom (shape .n) (same-done done e i .0 - 1) (e i .outgoing) strands) ∙ asked-yes 16 has-room (last-none .0)
+
+      pub taken : (after : Session) (bytes : List ℕ) → after ≡ withPosted done → bytes ≡ strandsWith (shape .n) done strands
+          → (after ≡ sessionAfter shape sent received session p strands) × (bytes ≡ strandsAfter shape sent received session p strands)
+      unfolding sessionAfter strandsAfter
+      taken after bytes f g = (
+        f ∙ ap withPosted e ∙ sym (kept-passed asked session (withPosted next) none),
+        g ∙ (λ i. posted (shape .n) (same-done done e i .0 - 1) (e i .outgoing) strands) ∙ sym (kept-passed asked strands written none),
+      )

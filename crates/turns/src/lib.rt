@@ -40,22 +40,13 @@ fn post(turned: Turned, n: usize, strands: &mut [u8]) -> Session
     ensures { λ r. ⌜ r ≡ withPosted turned ⌝ }
     ensures { λ _. ⌜ now (strands .exit) ≡ posted n (turned .session .initiator .0 - 1) (turned .outgoing) (now (strands .entry)) ⌝ }
 {
-    let session = turned.session;
+    let mut session = turned.session;
     let outgoing = turned.outgoing;
     let initiator = session.initiator;
-    let machine = session.machine;
-    let participants = session.participants;
     let before = session.lengths;
     let lengths = strands::post(outgoing, n, initiator.0 - 1, before, strands);
-    Session {
-        n: session.n,
-        initiator,
-        purpose: session.purpose,
-        machine,
-        participants,
-        lengths,
-        delivered: session.delivered,
-    }
+    session.lengths = lengths;
+    session
 }
 
 // What a step sends is put on the strands if it fits there (question 17); beside a refusal stands `kept`.
@@ -104,6 +95,24 @@ pub fn start(
     let rows = book::rows_of(shape);
     let turned = session_steps::begin(rows, sent, received, initiator, purpose);
     post_if_room(turned, none, shape.n, strands)
+}
+
+// A start, without the questions. Inner: asks for a start that no question refuses.
+pub fn take_start(
+    shape: Shape,
+    sent: &[Counter],
+    received: &[Counter],
+    initiator: Process,
+    purpose: u64,
+    strands: &mut [u8],
+) -> Session
+    requires { ⌜ startQuestion shape (now sent) (now received) initiator purpose (now strands) ≡ 0 ⌝ }
+    ensures { λ r. ⌜ r ≡ sessionStarted shape (now (sent .entry)) (now (received .entry)) initiator purpose (now (strands .entry)) ⌝ }
+    ensures { λ _. ⌜ now (strands .exit) ≡ strandsStarted shape (now (sent .entry)) (now (received .entry)) initiator purpose (now (strands .entry)) ⌝ }
+{
+    let rows = book::rows_of(shape);
+    let turned = session_steps::begin(rows, sent, received, initiator, purpose);
+    post(turned, shape.n, strands)
 }
 
 // Questions 10, 11 and 13 of a turn, on accepted tables.
@@ -165,4 +174,23 @@ pub fn turn(
     }
     let turned = deliver::deliver(session, rows, sent, received, place, strands);
     post_if_room(turned, session, shape.n, strands)
+}
+
+// A turn, without the questions. Inner: asks for a turn that no question refuses.
+pub fn take_turn(
+    session: Session,
+    rows: TableRows,
+    sent: &[Counter],
+    received: &[Counter],
+    p: Process,
+    strands: &mut [u8],
+) -> Session
+    requires { ⌜ TablesGiven rows (now sent) (now received) ⌝ }
+    requires { ⌜ turnQuestion (rows .shape) (now sent) (now received) session p (now strands) ≡ 0 ⌝ }
+    ensures { λ r. ⌜ r ≡ sessionAfter (rows .shape) (now (sent .entry)) (now (received .entry)) session p (now (strands .entry)) ⌝ }
+    ensures { λ _. ⌜ now (strands .exit) ≡ strandsAfter (rows .shape) (now (sent .entry)) (now (received .entry)) session p (now (strands .entry)) ⌝ }
+{
+    let shape = rows.shape;
+    let turned = deliver::deliver(session, rows, sent, received, p.0 - 1, strands);
+    post(turned, shape.n, strands)
 }

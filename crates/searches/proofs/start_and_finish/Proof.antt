@@ -2,7 +2,7 @@
 use mathlib.Core.Path.{_≡_}
 use borrow.Author.Needs.{needs}
 use lib.ListN.{length}
-use Rattle.searches.proofs.Finishing.{started-inside, finished-inside}
+use Rattle.searches.proofs.Finishing.{starts-inside, started-inside, finished-inside}
 use Rattle.searches.proofs.start_and_finish.Statement.{statement}
 use Rattle.searches.proofs.start_and_finish.Tie as tie
 
@@ -12,11 +12,16 @@ counts-long c = search needs
 strands-inside-requires : tie.Need-strands-inside-requires
 strands-inside-requires c κs = search needs
 
-slice-aggregate-start : tie.Need-slice-aggregate-start
-slice-aggregate-start c = search needs
+slice-aggregate-take-start : tie.Need-slice-aggregate-take-start
+slice-aggregate-take-start c = search needs
 
-start-requires : tie.Need-start-requires
-start-requires c κs = search needs
+take-start-requires : tie.Need-take-start-requires
+take-start-requires c κs =
+    let i = c .before in
+    let b = i .before .before .before in
+    let a = b .args in
+    starts-inside (a .shape) (a .sent .now) (a .received .now) (a .initiator) (a .purpose) (i .strands-inside .result)
+    (i .strands-inside .ensures) (counts-long b) (b .pre)
 
 slice-aggregate-finish : tie.Need-slice-aggregate-finish
 slice-aggregate-finish c = search needs
@@ -28,8 +33,8 @@ finish-requires c κs =
     let b = i .before .before .before in
     let a = b .args in
     started-inside (a .shape) (a .sent .now) (a .received .now) (a .initiator) (a .purpose) (i .strands-inside .result)
-    (s .start .result .session) (s .start .last .1 .1 .1 .1 .1 .0) (i .strands-inside .ensures) (s .start .ensures .1 .0)
-    (s .start .ensures .1 .1)
+    (s .take-start .result) (s .take-start .last .1 .1 .1 .1 .1 .0) (i .strands-inside .ensures) (s .take-start .ensures .0)
+    (s .take-start .ensures .1)
     (counts-long b)
     (b .pre)
 
@@ -40,8 +45,8 @@ returns c =
     let b = i .before .before .before in
     let a = b .args in
     finished-inside (a .shape) (a .sent .now) (a .received .now) (a .initiator) (a .purpose) (i .strands-inside .result)
-    (s .start .result .session) (s .start .last .1 .1 .1 .1 .1 .0) (i .strands-inside .ensures) (s .start .ensures .1 .0)
-    (s .start .ensures .1 .1)
+    (s .take-start .result) (s .take-start .last .1 .1 .1 .1 .1 .0) (i .strands-inside .ensures) (s .take-start .ensures .0)
+    (s .take-start .ensures .1)
     (c .before .finish .result)
     (c .before .finish .ensures)
 
@@ -50,8 +55,8 @@ start-and-finish-spec =
     tie.close
     (tie.spec
     strands-inside-requires
-    slice-aggregate-start
-    start-requires
+    slice-aggregate-take-start
+    take-start-requires
     slice-aggregate-finish
     finish-requires
     returns)

@@ -11,25 +11,27 @@ counts-long : (c : tie.Start) → length (c .args .rows .shape .counts) ≡ 16
 counts-long c = search needs
 
 returns : tie.Need-returns
-returns c = let a = c .before .before .before .before .before .before .before .before .args in other-initiator (a .rows .shape) (a .sent .now) (a .received .now) (a .session) (c .if1 .taken)
+returns c = let a = c .before .before .before .before .before .before .args in other-initiator (a .rows .shape) (a .sent .now) (a .received .now) (a .initiator .0) (a .purpose) (a .machine) (c .if1 .taken)
 
 returns-2 : tie.Need-returns-2
-returns-2 c =
-    let a = c .before .before .before .before .before .before .before .before .before .before .before .args in
-    other-purpose (a .rows .shape) (a .sent .now) (a .received .now) (a .session) (c .before .before .before .if1 .left) (c .if2 .taken)
+returns-2 c = let a = c .before .before .before .before .before .before .before .before .args in other-purpose (a .rows .shape) (a .sent .now) (a .received .now) (a .initiator .0) (a .purpose) (a .machine) (c .before .before .if1 .left) (c .if2 .taken)
 
 fits-requires : tie.Need-fits-requires
 fits-requires c κs =
-    let s = c .before .before .before .before .before .before .before .before .before .before .before in
+    let s = c .before .before .before .before .before .before .before .before in
     let a = s .args in
-    let me = c .before .before .before .if1 .left in
-    given-to (a .rows) (a .sent .now) (a .received .now) (a .session .machine .me .0) (counts-long s) (s .pre .0)
-    (omega (arith, me, s .pre .1))
+    given-to (a .rows) (a .sent .now) (a .received .now) (a .machine .me .0) (counts-long s) (s .pre .0) (omega (arith, c .before .before .if1 .left, s .pre .1))
 
 returns-3 : tie.Need-returns-3
 returns-3 c =
-    let a = c .before .before .before .before .before .before .before .before .before .before .before .before .args in
-    initiator-on (a .rows .shape) (a .sent .now) (a .received .now) (a .session) (c .before .before .before .before .if1 .left) (c .before .if2 .left) (c .fits2 .ensures)
+    let a = c .before .before .before .before .before .before .before .before .before .args in
+    initiator-on (a .rows .shape) (a .sent .now) (a .received .now) (a .initiator .0) (a .purpose) (a .machine) (c .before .before .before .if1 .left) (c .before .if2 .left) (c .fits2 .ensures)
 
 pub initiator-fits-spec : {M : Type 1} → statement M
-initiator-fits-spec = tie.close (tie.spec returns returns-2 fits-requires returns-3)
+initiator-fits-spec =
+    tie.close
+    (tie.spec
+    returns
+    returns-2
+    fits-requires
+    returns-3)

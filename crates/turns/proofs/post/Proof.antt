@@ -15,7 +15,7 @@ same-length c = search needs
 
 returns : tie.Need-returns
 returns c =
-    let a = c .before .before .before .before .before .before .before .before .before .before .before .before .args in
+    let a = c .before .before .before .before .before .before .before .before .before .before .args in
     let sent = c .before .before .post in
     (posted-is (a .turned) (sent .result) (sent .ensures .0), sent .ensures .1)
 

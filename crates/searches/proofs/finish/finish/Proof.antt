@@ -3,30 +3,55 @@
 use mathlib.Core.Path.{_≡_, refl, sym, ap, _∙_}
 use borrow.Author.Needs.{needs}
 use lib.ListN.{length}
+use Rattle.book.specs.declared.Shape.{Shape}
+use Rattle.line_theory.proofs.Accepted.{accepted-few}
 use Rattle.session.specs.Turns.{Ongoing}
-use Rattle.searches.proofs.Finishing.{Finishing, leftAt, finishing-none, turn-less, turn-more, finishing-all}
+use Rattle.turns.proofs.Turning.{tables-given}
+use Rattle.searches.proofs.Finishing.{Finishing, endOfAll, leftAt, started-rows, tables-accepted, finishing-none, turn-passes, turn-less, turn-more, finishing-all}
 use Rattle.searches.proofs.finish.finish.Statement.{statement}
 use Rattle.searches.proofs.finish.finish.Tie as tie
 
 abbrev Inv-loop : tie.InvT-loop
-Inv-loop shape sent received strands₀ next₀ p₀ strands next p =
+Inv-loop sent received strands₀ rows next₀ p₀ strands next p =
     (length strands ≡ length strands₀)
-    × Finishing shape sent received (record { session = next₀; strands = strands₀ }) (record { session = next; strands = strands }) p
+    × Finishing (rows .shape) sent received (record { session = next₀; strands = strands₀ }) (record { session = next; strands = strands }) p
 
 abbrev μ-loop : tie.MeasureT-loop
-μ-loop shape sent received strands₀ next₀ p₀ strands next p = leftAt shape sent received next
+μ-loop sent received strands₀ rows next₀ p₀ strands next p = leftAt (rows .shape) sent received next
+
+rows-of-requires : tie.Need-rows-of-requires Inv-loop μ-loop
+rows-of-requires c κs =
+    let s = c .before .before .before in
+    let a = s .args in
+    accepted-few (a .shape) (a .sent .now) (a .received .now) (s .pre .long) (tables-accepted (a .shape) (a .sent .now) (a .received .now) (a .session) (a .strands .now) (s .pre))
 
 lowest-waiting-requires : tie.Need-lowest-waiting-requires Inv-loop μ-loop
 lowest-waiting-requires c κs = search needs
 
 loop-holds : tie.Need-loop-holds Inv-loop μ-loop
 loop-holds c =
-    let s = c .before .before .before .before in
-    let a = s .args in
-    (refl, finishing-none (a .shape) (a .sent .now) (a .received .now) (a .session) (a .strands .now) (c .lowest-waiting .result) (s .pre) (c .lowest-waiting .ensures))
+    let rows = c .before .before .rows-of in
+    let s = c .before .before .before .before .before .before in
+    let a = s .args in (
+      refl,
+      finishing-none (rows .result .shape) (a .sent .now) (a .received .now) (a .session) (a .strands .now) (c .lowest-waiting .result)
+          (started-rows (a .shape) (rows .result .shape) (a .sent .now) (a .received .now) (a .session) (a .strands .now) (rows .ensures .0) (s .pre))
+          (c .lowest-waiting .ensures (a .session) refl),
+    )
 
-turn-requires : tie.Need-turn-requires Inv-loop μ-loop
-turn-requires c κs = search needs
+take-turn-requires : tie.Need-take-turn-requires Inv-loop μ-loop
+take-turn-requires c κs =
+    let l = c .before .before .before in
+    let rows = l .before .before .before .rows-of in
+    let s = l .before .before .before .before .before .before .before in
+    let a = s .args in (
+      tables-given (a .shape) (a .sent .now) (a .received .now) (rows .result)
+          (tables-accepted (a .shape) (a .sent .now) (a .received .now) (a .session) (a .strands .now) (s .pre))
+          (rows .ensures .0)
+          (rows .ensures .1),
+      turn-passes (rows .result .shape) (a .sent .now) (a .received .now) (record { session = a .session; strands = a .strands .now })
+          (record { session = l .loop .next; strands = l .loop .strands }) (l .loop .p) (l .loop .inv .1) (c .before .if1 .taken),
+    )
 
 lowest-waiting-requires-2 : tie.Need-lowest-waiting-requires-2 Inv-loop μ-loop
 lowest-waiting-requires-2 c κs = search needs
@@ -35,21 +60,24 @@ loop-less : tie.Need-loop-less Inv-loop μ-loop
 loop-less c =
     let t = c .before .before .before .before in
     let l = t .before .before .before .before in
-    let a = l .before .before .before .before .before .args in
-    turn-less (a .shape) (a .sent .now) (a .received .now) (record { session = a .session; strands = a .strands .now })
+    let rows = l .before .before .before .rows-of in
+    let a = l .before .before .before .before .before .before .before .args in
+    turn-less (rows .result .shape) (a .sent .now) (a .received .now) (record { session = a .session; strands = a .strands .now })
     (record { session = l .loop .next; strands = l .loop .strands }) (l .loop .p) (l .loop .inv .1) (t .before .before .if1 .taken)
-    (t .turn .result .session) (t .turn .last .1 .1 .1 .1 .1 .0) (t .turn .ensures .1 .0) (t .turn .ensures .1 .1)
+    (t .take-turn .result) (t .take-turn .last .1 .1 .1 .1 .1 .0) (t .take-turn .ensures .0) (t .take-turn .ensures .1)
 
 loop-again : tie.Need-loop-again Inv-loop μ-loop
 loop-again c =
     let t = c .before .before .before .before in
     let l = t .before .before .before .before in
-    let a = l .before .before .before .before .before .args in (
-      t .turn .kept .1 .1 .1 .1 .1 .0 ∙ l .loop .inv .0,
-      turn-more (a .shape) (a .sent .now) (a .received .now) (record { session = a .session; strands = a .strands .now })
+    let rows = l .before .before .before .rows-of in
+    let a = l .before .before .before .before .before .before .before .args in (
+      t .take-turn .kept .1 .1 .1 .1 .1 .0 ∙ l .loop .inv .0,
+      turn-more (rows .result .shape) (a .sent .now) (a .received .now) (record { session = a .session; strands = a .strands .now })
           (record { session = l .loop .next; strands = l .loop .strands }) (l .loop .p) (l .loop .inv .1) (t .before .before .if1 .taken)
-          (t .turn .result .session) (t .turn .last .1 .1 .1 .1 .1 .0) (t .turn .ensures .1 .0) (t .turn .ensures .1 .1)
-          (c .lowest-waiting2 .result) (c .lowest-waiting2 .ensures),
+          (t .take-turn .result) (t .take-turn .last .1 .1 .1 .1 .1 .0) (t .take-turn .ensures .0) (t .take-turn .ensures .1)
+          (c .lowest-waiting2 .result)
+          (c .lowest-waiting2 .ensures (t .take-turn .result) refl),
     )
 
 same-length : tie.Need-same-length Inv-loop μ-loop
@@ -58,9 +86,11 @@ same-length c = c .before .before .loop .inv .0
 returns : tie.Need-returns Inv-loop μ-loop
 returns c =
     let l = c .before .before in
-    let a = l .before .before .before .before .before .args in
+    let rows = l .before .before .before .rows-of in
+    let a = l .before .before .before .before .before .before .before .args in
     sym (ap (λ (o : Ongoing). o .session)
-    (finishing-all (a .shape) (a .sent .now) (a .received .now) (record { session = a .session; strands = a .strands .now })
+    (ap (λ (t : Shape). endOfAll t (a .sent .now) (a .received .now) (record { session = a .session; strands = a .strands .now })) (sym (rows .ensures .0))
+    ∙ finishing-all (rows .result .shape) (a .sent .now) (a .received .now) (record { session = a .session; strands = a .strands .now })
     (record { session = l .loop .next; strands = l .loop .strands }) (l .loop .p) (l .loop .inv .1) (c .if1 .left)))
 
 pub finish-spec : {M : Type 1} → statement M
@@ -69,9 +99,10 @@ finish-spec =
     (tie.spec
     Inv-loop
     μ-loop
+    rows-of-requires
     lowest-waiting-requires
     loop-holds
-    turn-requires
+    take-turn-requires
     lowest-waiting-requires-2
     loop-less
     loop-again

@@ -2,7 +2,7 @@
 use Prim.Native.Nat.{_-_}
 use native.Mathlib.Omega.{arith}
 use borrow.Author.Needs.{needs}
-use Rattle.searches.proofs.Lowest.{NoneYet, none-yet, none-more, lowest-is, lowest-is-none}
+use Rattle.searches.proofs.Lowest.{NoneYet, none-yet, none-more, lowest-in, none-in}
 use Rattle.searches.proofs.finish.lowest_waiting.Statement.{statement}
 use Rattle.searches.proofs.finish.lowest_waiting.Tie as tie
 
@@ -13,7 +13,7 @@ abbrev μ-loop : tie.MeasureT-loop
 μ-loop lengths k₀ k = 16 - k
 
 loop-holds : tie.Need-loop-holds Inv-loop μ-loop
-loop-holds c = none-yet (c .before .args .session .lengths)
+loop-holds c = none-yet (c .args .t1)
 
 mul-if1 : tie.Need-mul-if1 Inv-loop μ-loop
 mul-if1 c = omega arith
@@ -26,7 +26,7 @@ add-t9 c = omega arith
 
 returns : tie.Need-returns Inv-loop μ-loop
 returns c =
-    lowest-is (c .before .before .before .before .args .session) (c .before .before .loop .k) (c .before .before .loop .inv)
+    lowest-in (c .before .before .before .args .t1) (c .before .before .loop .k) (c .before .before .loop .inv)
     (c .before .loop-test .taken) (c .if1 .taken)
 
 add-k : tie.Need-add-k Inv-loop μ-loop
@@ -37,12 +37,12 @@ loop-less c = search needs
 
 loop-again : tie.Need-loop-again Inv-loop μ-loop
 loop-again c =
-    none-more (c .before .before .before .before .args .session .lengths) (c .before .before .loop .k)
+    none-more (c .before .before .before .args .t1) (c .before .before .loop .k)
     (c .before .before .loop .inv) (c .before .loop-test .taken) (c .if1 .left)
 
 returns-2 : tie.Need-returns-2 Inv-loop μ-loop
 returns-2 c =
-    lowest-is-none (c .before .before .before .args .session) (c .before .loop .k) (c .before .loop .inv) (c .loop-test .left)
+    none-in (c .before .before .args .t1) (c .before .loop .k) (c .before .loop .inv) (c .loop-test .left)
 
 pub lowest-waiting-spec : {M : Type 1} → statement M
 lowest-waiting-spec =
