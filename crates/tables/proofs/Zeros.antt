@@ -53,3 +53,36 @@ module _ (whole : Bool) (l : List ℕ) (to i : ℕ) (z : Zeros whole l to i) whe
   pub zeros-end : to ≤ i → true ≡ whole
   zeros-end h =
       sym (z .rest ∙ ap allZero (drop-of-length-le (take to l) {i = i} (rw (length-take-le to l (z .fits)) h)) ∙ zero-none)
+
+-- the same where all entries are looked at: `clear` is the answer for those before i
+pub record Clearing (whole : Bool) (l : List ℕ) (to i : ℕ) (clear : Bool) : Type 0 where
+  pub passed : i ≤ to
+  pub fits : to ≤ length l
+  pub rest : whole ≡ (clear && allZero (slice i to l))
+
+module _ (whole : Bool) (l : List ℕ) (to i : ℕ) (clear : Bool) (z : Clearing whole l to i clear) where
+  both : (c : Bool) (v : ℕ) (vs : List ℕ) → (c && allZero (v ∷ vs)) ≡ ((c && eqb v 0) && allZero vs)
+  unfolding allZero
+  both true v vs = refl
+  both false v vs = refl
+
+  pub clearing-more : i < to → (next : Bool) → next ≡ (clear && eqb (getD l i 0) 0) → Clearing whole l to (i + 1) next
+  clearing-more h next e =
+      record {
+        passed = omega arith;
+        fits = z .fits;
+        rest = rw add-one (z .rest ∙ ap (λ (s : List ℕ). clear && allZero s) (slice-cons i to l 0 h (z .fits)))
+            ∙ both clear (getD l i 0) (slice (i + 1) to l)
+            ∙ ap (λ (b : Bool). b && allZero (slice (i + 1) to l)) (sym e);
+      }
+
+  kept : (c : Bool) → (c && true) ≡ c
+  kept true = refl
+  kept false = refl
+
+  pub clearing-end : to ≤ i → clear ≡ whole
+  clearing-end h =
+      sym (z .rest
+      ∙ ap (λ (b : Bool). clear && b)
+      (ap allZero (drop-of-length-le (take to l) {i = i} (rw (length-take-le to l (z .fits)) h)) ∙ zero-none)
+      ∙ kept clear)

@@ -3,9 +3,10 @@ use book::Answer;
 use book::Counter;
 use book::Shape;
 ghost use mathlib.Core.Path.{_≡_};
-ghost use mathlib.Core.Bool.{false};
+ghost use mathlib.Core.Bool.{false, _&&_};
 ghost use Prim.Native.Nat.{_+_, _-_, _*_, _≤_, _<_};
 ghost use lib.ListN.{length, take, drop};
+ghost use lib.Dec.{eqb};
 ghost use Rattle.book.specs.Bounds.{mark};
 ghost use Rattle.book.specs.Tables.{others, checkpointsOf, processesOf};
 ghost use Rattle.book.specs.Check.{countsQuestion, rowsQuestion, tablesQuestion};
@@ -122,19 +123,28 @@ fn rows_question(shape: Shape, sent: &[Counter], received: &[Counter]) -> u32
     0
 }
 
-// Are the entries from a place up to another all zero?
+// Still clear after one more entry?
+fn still_clear(clear: bool, v: Counter) -> bool
+    ensures { λ r. ⌜ r ≡ (clear && eqb v 0) ⌝ }
+{
+    if v != 0 {
+        return false;
+    }
+    clear
+}
+
+// Are the entries from a place up to another all zero? The loop looks at all of them, so that the compiler takes several at a time.
 fn all_zero(table: &[Counter], from: usize, to: usize) -> bool
     requires { ⌜ (from ≤ to) × (to ≤ length (now table)) ⌝ }
     ensures { λ r. ⌜ r ≡ allZero (drop from (take to (now (table .entry)))) ⌝ }
 {
+    let mut clear = true;
     let mut i = from;
     while i < to {
-        if table[i] != 0 {
-            return false;
-        }
+        clear = still_clear(clear, table[i]);
         i += 1;
     }
-    true
+    clear
 }
 
 // Are the counts of absent processes zero?

@@ -1,31 +1,31 @@
--- `tables::all_zero` meets its contract: the entries before i are zero.
+-- `tables::all_zero` meets its contract: `clear` is the answer for the entries before i.
 use mathlib.Core.Path.{refl}
 use Prim.Native.Nat.{_-_}
 use native.Mathlib.Omega.{arith}
 use borrow.Author.Needs.{needs}
 use lib.ListN.{take, drop}
 use Rattle.book.specs.Questions.{allZero}
-use Rattle.tables.proofs.Zeros.{Zeros, zeros-more, zeros-fail, zeros-end}
+use Rattle.tables.proofs.Zeros.{Clearing, clearing-more, clearing-end}
 use Rattle.tables.proofs.all_zero.Statement.{statement}
 use Rattle.tables.proofs.all_zero.Tie as tie
 
 abbrev Inv-loop : tie.InvT-loop
-Inv-loop table from to i₀ i = Zeros (allZero (drop from (take to table))) table to i
+Inv-loop table from to clear₀ i₀ clear i = Clearing (allZero (drop from (take to table))) table to i clear
 
 abbrev μ-loop : tie.MeasureT-loop
-μ-loop table from to i₀ i = to - i
+μ-loop table from to clear₀ i₀ clear i = to - i
 
 loop-holds : tie.Need-loop-holds Inv-loop μ-loop
 loop-holds c = record { passed = search needs; fits = search needs; rest = refl }
 
-mul-if1 : tie.Need-mul-if1 Inv-loop μ-loop
-mul-if1 c = omega arith
+mul-still-clear : tie.Need-mul-still-clear Inv-loop μ-loop
+mul-still-clear c = omega arith
 
-shared-slice-read-if1 : tie.Need-shared-slice-read-if1 Inv-loop μ-loop
-shared-slice-read-if1 c = omega arith
+shared-slice-read-still-clear : tie.Need-shared-slice-read-still-clear Inv-loop μ-loop
+shared-slice-read-still-clear c = omega arith
 
-returns : tie.Need-returns Inv-loop μ-loop
-returns c = zeros-fail _ _ _ _ (c .before .before .before .loop .inv) (c .before .before .loop-test .taken) (c .if1 .taken)
+still-clear-requires : tie.Need-still-clear-requires Inv-loop μ-loop
+still-clear-requires c κs = search needs
 
 add-i : tie.Need-add-i Inv-loop μ-loop
 add-i c = omega arith
@@ -34,10 +34,10 @@ loop-less : tie.Need-loop-less Inv-loop μ-loop
 loop-less c = omega arith
 
 loop-again : tie.Need-loop-again Inv-loop μ-loop
-loop-again c = zeros-more _ _ _ _ (c .before .before .before .loop .inv) (c .before .before .loop-test .taken) (c .if1 .left)
+loop-again c = clearing-more _ _ _ _ _ (c .before .before .before .loop .inv) (c .before .before .loop-test .taken) _ (c .still-clear .ensures)
 
-returns-2 : tie.Need-returns-2 Inv-loop μ-loop
-returns-2 c = zeros-end _ _ _ _ (c .before .loop .inv) (c .loop-test .left)
+returns : tie.Need-returns Inv-loop μ-loop
+returns c = clearing-end _ _ _ _ _ (c .before .loop .inv) (c .loop-test .left)
 
 pub all-zero-spec : {M : Type 1} → statement M
 all-zero-spec =
@@ -46,10 +46,10 @@ all-zero-spec =
     Inv-loop
     μ-loop
     loop-holds
-    mul-if1
-    shared-slice-read-if1
-    returns
+    mul-still-clear
+    shared-slice-read-still-clear
+    still-clear-requires
     add-i
     loop-less
     loop-again
-    returns-2)
+    returns)
