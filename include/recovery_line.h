@@ -6,7 +6,8 @@
  *
  * Every function
  *   - returns 0 if it accepts, and else the number of the first question that fails;
- *   - changes nothing that was lent when it refuses: no table, state, buffer or number;
+ *   - changes nothing that was lent when it refuses: no table, state, buffer or number; and when it accepts, leaves the bytes of
+ *     a buffer that it has nothing to write to;
  *   - ends on every input, allocates nothing, keeps nothing between calls, and calls nothing outside but C's memcpy, memmove,
  *     memset and memcmp.
  *
@@ -15,29 +16,33 @@
  *     for its element, and points to as many elements, all of which are initialised, also those that are only written.
  *   - What a function writes to (a pointer without `const`) overlaps nothing else that is lent to the same call. What it
  *     only reads may overlap.
- *   - A pointer to a single number (`length`, `passed`, `rounds`, `messages`) is never null.
- *   - While a call runs, nobody else writes what is lent to it or reads what it writes. Calls on different memory may run at
- *     the same time, in any threads, and from signal handlers.
- *   - A call needs at most RECOVERY_LINE_STACK_BYTES of stack, also on the stack of a signal handler; what each was measured
- *     to need, rounded up, stands with it.
+ *   - A pointer to a single number (`length`, `passed`, `rounds`, `messages`) is never null, is aligned, and points to a number
+ *     that is initialised.
+ *   - While a call runs, nobody else writes what is lent to it or reads what it writes. Calls that share only what they
+ *     read may run at the same time, in any threads, and from signal handlers.
+ *   - Stack: no call was measured to need more than RECOVERY_LINE_STACK_BYTES; on a signal handler's stack that comes on top of
+ *     what the handler and the system take. What each was measured to need, rounded up, stands with it.
  *
  * Words. Shapes, sets, states, sessions, lengths and orders cross as 64-bit words in slices of a fixed, named length. A slice
  * of words of any other length is refused by RECOVERY_LINE_WRONG_LENGTH, before every question. Tables have another rule:
  * question 2 asks their lengths.
  *   shape        n, then sixteen counts of checkpoints; 0 for absent processes.
  *   set, line    sixteen checkpoint numbers; 0 for absent processes.
+ *   pair         two process numbers.
  *   lengths      how many bytes were written for each of sixteen processes; 0 for none.
- *   order        sixteen checkpoints restarted from, sixteen numbers of those that go before, sixteen of those after.
+ *   order        sixteen checkpoints restarted from, numbered as before the move; sixteen numbers of those that go before it,
+ *                sixteen of those after.
  *   participant  n, process, initiator, purpose, stage (0 before the invitation, 1 searching, 2 ended), candidate; then
- *                sixteen counters of the row that it last reported, and sixteen of its column.
+ *                sixteen counters of the row that it last reported, and sixteen of its column: what each other process is known
+ *                to have sent to it.
  *   initiator    n, process, purpose, ended (0 or 1), candidate, rounds; then sixteen flags of who is awaited (0 or 1); the
  *                matrix, sixteen rows of sixteen counters, a row for each sender; and its copy, likewise.
  *   session      n, initiator, purpose; the initiator's words; a participant's words for each of sixteen processes (all zero
- *                for absent ones, and at the initiator's place); how many bytes wait on each of sixteen strands; the count
- *                of messages delivered.
- * The names in a state (process, initiator, purpose) meet questions 10 and 11. A state that does not decode otherwise (a
- * stage above 2, a flag above 1, a counter or a count of rounds or deliveries of 2^32 or more) fails question 13, as one does
- * that does not fit the tables.
+ *                for absent ones, and at the initiator's place); how many bytes wait on the strand of each of sixteen processes
+ *                (0 for none, for absent ones and at the initiator's place); the count of messages delivered.
+ * The names in a state (process, initiator, purpose) meet questions 10 and 11. A state that does not decode
+ * for another reason (a stage above 2, a flag above 1, a counter or a count of rounds or deliveries of 2^32 or more) fails
+ * question 13, as one does that does not fit the tables.
  *
  * Tables. `sent` and `received` have RECOVERY_LINE_TABLE_ENTRIES counters each: a row of sixteen for each checkpoint,
  * processes in order, oldest checkpoint first; column p is partner p. What is unused is zero.
@@ -76,23 +81,23 @@ extern "C" {
 #define RECOVERY_LINE_MESSAGE_BYTES(n) (4 + ((n) - 1) * 6)
 #define RECOVERY_LINE_STRAND_BYTES(n) (((n) - 1) * RECOVERY_LINE_MESSAGE_BYTES(n))
 
-/* The stack that suffices for every call: a quarter more than the most that was measured. */
+/* The stack that suffices for every call: a quarter more than the most that was measured, rounded up. */
 #define RECOVERY_LINE_STACK_BYTES 81920
 
-/* A counter that is not known. */
+/* A counter that is not known, in a state's rows, columns and matrices; never in tables or messages. */
 #define RECOVERY_LINE_NOT_KNOWN 4294967295u
 
 /* Purposes. */
-#define RECOVERY_LINE_ADVANCE 1
-#define RECOVERY_LINE_RESTART 2
-#define RECOVERY_LINE_ADVANCE_AND_RESTART 3
+#define RECOVERY_LINE_ADVANCE 1 /* the line */
+#define RECOVERY_LINE_RESTART 2 /* only, from checkpoint 1 */
+#define RECOVERY_LINE_ADVANCE_AND_RESTART 3 /* from the line */
 
 /* The answer of a call that accepts, and of one that is lent a slice of words of the wrong length. */
 #define RECOVERY_LINE_ACCEPTED 0
 #define RECOVERY_LINE_WRONG_LENGTH 100
 
 /* Reads a checkpoint book: its counters into the two tables, every entry of both, and its shape.
- * Questions: 1 to 9.
+ * Questions: 1, 2, then along the book, number by number, 3 to 9.
  * Stack: 1024 bytes. */
 uint32_t recovery_line_read(const uint8_t *bytes, size_t bytes_len, uint64_t *shape, size_t shape_len, uint32_t *sent,
                             size_t sent_len, uint32_t *received, size_t received_len);
@@ -126,7 +131,8 @@ uint32_t recovery_line_find(const uint64_t *shape, size_t shape_len, const uint3
                             const uint32_t *received, size_t received_len, uint64_t *line, size_t line_len,
                             uint64_t *passed);
 
-/* Makes a participant's first state, before its invitation. Only the rows of process `me` matter beyond the check.
+/* Makes a participant's first state, before its invitation. Beyond the check, the calls of the machines go by n and the rows of
+ * their own process: who has no others lends one checkpoint of zeros for each other process.
  * Questions: the tables', 10, 11.
  * Stack: 1024 bytes. */
 uint32_t recovery_line_participant_first(const uint64_t *shape, size_t shape_len, const uint32_t *sent, size_t sent_len,
@@ -153,7 +159,7 @@ uint32_t recovery_line_initiator_begin(const uint64_t *shape, size_t shape_len, 
                                        uint64_t *lengths, size_t lengths_len);
 
 /* An initiator receives a report: its state after the step, and what it sends (nothing, polls or terminations) as
- * `recovery_line_initiator_begin` writes invitations.
+ * `recovery_line_initiator_begin` writes invitations. RECOVERY_LINE_STRAND_BYTES(n) bytes always suffice.
  * Questions: the tables', 10, 11, 13, 14, 15, 16, 17.
  * Stack: 26624 bytes. */
 uint32_t recovery_line_initiator_receive(uint64_t *state, size_t state_len, const uint64_t *shape, size_t shape_len,
@@ -162,8 +168,8 @@ uint32_t recovery_line_initiator_receive(uint64_t *state, size_t state_len, cons
                                          size_t out_len, uint64_t *lengths, size_t lengths_len);
 
 /* Starts a session: all machines of one search in one place. Each invitation waits at the start of its strand's slot in
- * `strands`: RECOVERY_LINE_MESSAGE_BYTES(n) bytes for each participant, in rising order; every other byte stays.
- * RECOVERY_LINE_STRAND_BYTES(n) bytes always suffice.
+ * `strands`: RECOVERY_LINE_MESSAGE_BYTES(n) bytes for each participant, in rising order, none for the initiator; every other
+ * byte stays. RECOVERY_LINE_STRAND_BYTES(n) bytes always suffice.
  * Questions: the tables', 10, 11, 17.
  * Stack: 40960 bytes. */
 uint32_t recovery_line_session_start(const uint64_t *shape, size_t shape_len, const uint32_t *sent, size_t sent_len,
@@ -171,7 +177,8 @@ uint32_t recovery_line_session_start(const uint64_t *shape, size_t shape_len, co
                                      uint64_t purpose, uint64_t *session, size_t session_len, uint8_t *strands,
                                      size_t strands_len);
 
-/* A turn: the message that waits on process p's strand is delivered, and the replies wait then.
+/* A turn: the message that waits on process p's strand is delivered, and the replies wait then. Session, strands and tables are
+ * as the start or the turn before left them. RECOVERY_LINE_STRAND_BYTES(n) bytes always suffice.
  * Questions: the tables', 10, 11, 13, 17, 18.
  * Stack: 63488 bytes. */
 uint32_t recovery_line_session_turn(uint64_t *session, size_t session_len, const uint64_t *shape, size_t shape_len,

@@ -15,7 +15,7 @@ use Rattle.words.specs.Plain.{numberWords}
 use Rattle.words.specs.Participant.{participantWords, participantDecodes, participantAt}
 use Rattle.words.specs.Initiator.{initiatorWords, initiatorDecodes, initiatorAt}
 
--- the initiator's words begin here, and those of the participant at place k, which counts from 0, of the lengths, and the count
+-- where each part begins: the initiator's words, those of the participant at place k, which counts from 0, the lengths, the count
 abbrev pub machineStart : ℕ
 machineStart = 3
 

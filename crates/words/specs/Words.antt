@@ -50,7 +50,7 @@ unfoldable pub allBelow : ℕ → List ℕ → ℕ → ℕ → Bool
 allBelow bound words at k = allTo k (λ i. ltb (word words (at + i)) bound)
 
 -- A counter, a count of rounds or of deliveries has 32 bits. A word that has more is no such number: whoever takes one asks
--- `allBelow` too.
+-- too that it is below this.
 abbrev pub counterLimit : ℕ
 counterLimit = 4294967296
 
