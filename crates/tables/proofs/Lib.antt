@@ -6,3 +6,6 @@ pub mod ProcessTurns
 pub mod BookTurns
 pub mod UnusedTurns
 pub mod Order
+pub mod Sweeps
+pub mod SoundTurns
+pub mod Passes

@@ -1,5 +1,5 @@
 -- The questions of tables in their order: what each answer tells of the whole.
-use mathlib.Core.Path.{_≡_, sym, _∙_}
+use mathlib.Core.Path.{_≡_, refl, sym, _∙_}
 use mathlib.Core.Bool.{Bool, true, false, not}
 use mathlib.Core.List.{List}
 use Prim.Native.Nat.{ℕ, _≤_, _<_}
@@ -14,6 +14,7 @@ use Rattle.book.specs.Check.{countsQuestion, rowsQuestion, tablesQuestion}
 use Rattle.book.specs.InTurn.{_then_, ask}
 use Rattle.book.specs.Questions.{unusedZero}
 use Rattle.book.proofs.Questions.{ask-yes, ask-no}
+use Rattle.tables.specs.Sound.{Passed}
 use Rattle.tables.proofs.Answers.{answer-fails, answer-passes}
 use Rattle.book.proofs.Counts.{counts-few}
 
@@ -86,3 +87,6 @@ module _ (shape : Shape) (sent received : List ℕ) where
 
             pub all-passed : not u ≡ false → 0 ≡ tablesQuestion shape sent received
             all-passed f = sym (asked ∙ ask-yes 9 u (not-false u f))
+
+        pub all-sound : Passed shape sent received → 0 ≡ tablesQuestion shape sent received
+        all-sound s = all-passed 0 (sym (s .rows)) refl true (sym (s .unused)) refl

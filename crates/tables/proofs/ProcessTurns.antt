@@ -80,7 +80,7 @@ module _ (mark : ℕ) (oldest : Bool) (n j start : ℕ) (sent received : List �
       ∙ ap (λ (q : ℕ). rowAnswer mark oldest n j start sent then λ _. rowAnswer mark oldest n j start received then λ _. q) (sym (later-rows left))
 
 -- row r of the process
-row-fits : (n j first count r : ℕ) (table : List ℕ) → RowsFit n j first count table → r < count
+pub row-fits : (n j first count r : ℕ) (table : List ℕ) → RowsFit n j first count table → r < count
     → RowFits (eqb r 0) n j ((first + r) * 16) table
 row-fits n j first count r table f h =
     record {

@@ -1,7 +1,8 @@
 -- `tables::question` meets its contract: each answer is that of the first question that fails.
+use mathlib.Core.Path.{sym, _∙_}
 use borrow.Author.Needs.{needs}
 use Rattle.book.specs.Fits.{BookFits}
-use Rattle.tables.proofs.Order.{Sized, short-sent, short-received, too-few, too-many, counts-fail, counts-fit, rows-fail, unused-fails, all-passed}
+use Rattle.tables.proofs.Order.{Sized, short-sent, short-received, too-few, too-many, counts-fail, counts-fit, rows-fail, unused-fails, all-passed, all-sound}
 use Rattle.tables.proofs.question.Statement.{statement}
 use Rattle.tables.proofs.question.Tie as tie
 
@@ -36,25 +37,38 @@ rows-in c =
     let inside = counts-fit _ _ _ z _ (c .before .counts-question .ensures) (c .if5 .left) in
     (record { most = z .most; inside = inside; whole = z .long-sent }, record { most = z .most; inside = inside; whole = z .long-received })
 
-rows-question-requires : tie.Need-rows-question-requires
-rows-question-requires c κs = rows-in c
+sound-requires : tie.Need-sound-requires
+sound-requires c κs = let fits = rows-in c in (fits .0, (fits .1, sym (c .before .counts-question .ensures) ∙ c .if5 .left))
 
 returns-6 : tie.Need-returns-6
 returns-6 c =
-    rows-fail _ _ _ (sized (c .before .before .before .before)) _ (c .before .before .before .counts-question .ensures) (c .before .before .if5 .left) _ (c .before .rows-question .ensures) (c .if6 .taken)
+    let at = c .before .before in
+    all-sound _ _ _ (sized (at .before .before)) _ (at .before .counts-question .ensures) (at .if5 .left)
+    (c .before .sound .ensures (c .if6 .taken))
 
-everything-unused-zero-requires : tie.Need-everything-unused-zero-requires
-everything-unused-zero-requires c κs = rows-in (c .before .before)
+rows-question-requires : tie.Need-rows-question-requires
+rows-question-requires c κs = rows-in (c .before .before)
 
 returns-7 : tie.Need-returns-7
 returns-7 c =
-    unused-fails _ _ _ (sized (c .before .before .before .before .before .before)) _ (c .before .before .before .before .before .counts-question .ensures) (c .before .before .before .before .if5 .left) _ (c .before .before .before .rows-question .ensures)
-    (c .before .before .if6 .left) _ (c .before .everything-unused-zero .ensures) (c .if7 .taken)
+    let at = c .before .before .before .before in
+    rows-fail _ _ _ (sized (at .before .before)) _ (at .before .counts-question .ensures) (at .if5 .left)
+    _ (c .before .rows-question .ensures) (c .if7 .taken)
+
+everything-unused-zero-requires : tie.Need-everything-unused-zero-requires
+everything-unused-zero-requires c κs = rows-in (c .before .before .before .before)
 
 returns-8 : tie.Need-returns-8
 returns-8 c =
-    all-passed _ _ _ (sized (c .before .before .before .before .before .before)) _ (c .before .before .before .before .before .counts-question .ensures) (c .before .before .before .before .if5 .left) _ (c .before .before .before .rows-question .ensures)
-    (c .before .before .if6 .left) _ (c .before .everything-unused-zero .ensures) (c .if7 .left)
+    let at = c .before .before .before .before .before .before in
+    unused-fails _ _ _ (sized (at .before .before)) _ (at .before .counts-question .ensures) (at .if5 .left)
+    _ (c .before .before .before .rows-question .ensures) (c .before .before .if7 .left) _ (c .before .everything-unused-zero .ensures) (c .if8 .taken)
+
+returns-9 : tie.Need-returns-9
+returns-9 c =
+    let at = c .before .before .before .before .before .before in
+    all-passed _ _ _ (sized (at .before .before)) _ (at .before .counts-question .ensures) (at .if5 .left)
+    _ (c .before .before .before .rows-question .ensures) (c .before .before .if7 .left) _ (c .before .everything-unused-zero .ensures) (c .if8 .left)
 
 pub question-spec : {M : Type 1} → statement M
 question-spec =
@@ -66,8 +80,10 @@ question-spec =
     returns-4
     counts-question-requires
     returns-5
-    rows-question-requires
+    sound-requires
     returns-6
-    everything-unused-zero-requires
+    rows-question-requires
     returns-7
-    returns-8)
+    everything-unused-zero-requires
+    returns-8
+    returns-9)
