@@ -2,9 +2,9 @@
 use mathlib.Core.Path.{_≡_, refl, sym, ap, _∙_}
 use mathlib.Core.Bool.{Bool, true, false, _&&_}
 use mathlib.Core.List.{List}
-use Prim.Native.Nat.{ℕ, zero, suc, _≤_, _<_}
+use Prim.Native.Nat.{ℕ, zero, suc, _≤_}
 use native.Mathlib.Omega.{arith}
-use borrow.Author.Tests.{eqb-true, leb-true, le-leb, lt-leb}
+use borrow.Author.Tests.{eqb-true, leb-true}
 use lib.ListN.{length, take}
 use lib.Seq.{sets}
 use lib.Dec.{eqb, leb}
@@ -59,15 +59,16 @@ module _ (shape : Shape) (sent received : List ℕ) where
         let w : writeQuestion shape sent received out ≡ q = first ∙ sym e in
         (sym (rw w (length-refused q _ f)), sym (rw w (kept-refused q out _ f)))
 
-    module _ {size : ℕ} (e : tablesQuestion shape sent received ≡ 0) (same : size ≡ length (bytesOf shape sent received)) where
+    module _ (e : tablesQuestion shape sent received ≡ 0) where
       -- question 17 fails
-      pub full : length out < size
+      pub full : leb (length (bytesOf shape sent received)) (length out) ≡ false
           → (Refused 17 ≡ writeAnswer shape sent received out) × (out ≡ bytesWritten shape sent received out)
       unfolding writeAnswer bytesWritten writeQuestion
-      full h = rw (e, lt-leb (length (bytesOf shape sent received)) (length out) (omega arith)) (refl, refl)
+      full h = rw (e, h) (refl, refl)
 
       -- none fails
-      pub written : {out′ : List ℕ} → size ≤ length out → out′ ≡ sets out 0 (bytesOf shape sent received)
+      pub written : {size : ℕ} {out′ : List ℕ} → leb (length (bytesOf shape sent received)) (length out) ≡ true
+          → size ≡ length (bytesOf shape sent received) → out′ ≡ sets out 0 (bytesOf shape sent received)
           → (Length size ≡ writeAnswer shape sent received out) × (out′ ≡ bytesWritten shape sent received out)
       unfolding writeAnswer bytesWritten writeQuestion
-      written h w = rw (e, le-leb (length (bytesOf shape sent received)) (length out) (omega arith)) (ap Length same, w)
+      written h same w = rw (e, h) (ap Length same, w)

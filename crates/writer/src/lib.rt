@@ -6,7 +6,9 @@ ghost use mathlib.Core.Path.{_≡_};
 ghost use Prim.Native.Nat.{_+_, _*_, _≤_, _<_};
 ghost use lib.ListN.{length, getD};
 ghost use lib.Seq.{sets};
+ghost use lib.Dec.{leb};
 ghost use Rattle.book.specs.Tables.{column};
+ghost use Rattle.book.specs.Check.{tablesQuestion};
 ghost use Rattle.book.specs.Write.{bytesOf, writeAnswer, bytesWritten};
 ghost use Rattle.book.specs.Fits.{RowsFit, BookFits};
 ghost use Rattle.writer.specs.Parts.{rowBytes, checkpointBytes, checkpointsBytes, processBytes};
@@ -187,11 +189,12 @@ fn write_process(
     write_checkpoints(sent, received, n, j, first, count, out, next)
 }
 
-// The book's bytes at the start of the buffer, for a caller that has made sure of the room.
-fn write_book(shape: Shape, sent: &[Counter], received: &[Counter], out: &mut [u8])
+// The book's bytes at the start of the buffer, for a caller that has made sure of the room; it returns how many.
+fn write_book(shape: Shape, sent: &[Counter], received: &[Counter], out: &mut [u8]) -> usize
     requires { ⌜ BookFits (shape .n) (shape .counts) (now sent) ⌝ }
     requires { ⌜ BookFits (shape .n) (shape .counts) (now received) ⌝ }
     requires { ⌜ length (bytesOf shape (now sent) (now received)) ≤ length (now out) ⌝ }
+    ensures { λ r. ⌜ r ≡ length (bytesOf shape (now (sent .entry)) (now (received .entry))) ⌝ }
     ensures { λ _. ⌜ now (out .exit) ≡ sets (now (out .entry)) 0 (bytesOf shape (now (sent .entry)) (now (received .entry))) ⌝ }
 {
     let n = shape.n;
@@ -204,6 +207,18 @@ fn write_book(shape: Shape, sent: &[Counter], received: &[Counter], out: &mut [u
         first += counts[j];
         j += 1;
     }
+    next
+}
+
+// Is there room for the book (question 17)? A buffer for the largest book always has it: only a smaller one makes us measure.
+fn has_room(shape: Shape, sent: &[Counter], received: &[Counter], room: usize) -> bool
+    requires { ⌜ tablesQuestion shape (now sent) (now received) ≡ 0 ⌝ }
+    ensures { λ r. ⌜ r ≡ leb (length (bytesOf shape (now (sent .entry)) (now (received .entry)))) room ⌝ }
+{
+    if book::MOST_BYTES <= room {
+        return true;
+    }
+    book_size(shape, sent, received) <= room
 }
 
 // The tables' book written to the start of a buffer: how many bytes, or the first question that fails, the buffer then
@@ -216,10 +231,9 @@ pub fn write(shape: Shape, sent: &[Counter], received: &[Counter], out: &mut [u8
     if question != 0 {
         return WriteAnswer::Refused(question);
     }
-    let size = book_size(shape, sent, received);
-    if out.len() < size {
+    if !has_room(shape, sent, received, out.len()) {
         return WriteAnswer::Refused(17);
     }
-    write_book(shape, sent, received, out);
+    let size = write_book(shape, sent, received, out);
     WriteAnswer::Length(size)
 }

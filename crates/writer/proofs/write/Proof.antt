@@ -1,7 +1,8 @@
 -- `writer::write` meets its contract: at each return the tests that led there say which question fails first.
 use mathlib.Core.Path.{sym, _∙_}
-use native.Mathlib.Omega.{arith}
+use mathlib.Core.Bool.{true, false}
 use borrow.Author.Needs.{needs}
+use borrow.Author.Tests.{not-true, not-false, leb-true}
 use Rattle.writer.proofs.Answers.{accepted, refused, full, written}
 use Rattle.writer.proofs.write.Statement.{statement}
 use Rattle.writer.proofs.write.Tie as tie
@@ -12,30 +13,31 @@ question-requires c κs = search needs
 returns : tie.Need-returns
 returns c = refused _ _ _ _ (c .before .question .ensures) (c .if1 .taken)
 
-book-size-requires : tie.Need-book-size-requires
-book-size-requires c κs = accepted _ _ _ (sym (c .before .question .ensures) ∙ c .if1 .left)
+has-room-requires : tie.Need-has-room-requires
+has-room-requires c κs = sym (c .before .question .ensures) ∙ c .if1 .left
 
 returns-2 : tie.Need-returns-2
 returns-2 c =
     let q = c .before .before in
-    full _ _ _ _ (sym (q .before .question .ensures) ∙ q .if1 .left) (c .before .book-size .ensures) (c .if2 .taken)
+    full _ _ _ _ (sym (q .before .question .ensures) ∙ q .if1 .left) (sym (c .before .has-room .ensures) ∙ not-true _ (c .if2 .taken))
 
 write-book-requires : tie.Need-write-book-requires
 write-book-requires c κs =
-    let q = c .before .before .before in
+    let h = c .before in
+    let q = h .before .before in
     let fits = accepted _ _ _ (sym (q .before .question .ensures) ∙ q .if1 .left) in
-    (fits .0, (fits .1, omega (arith, c .before .before .book-size .ensures)))
+    (fits .0, (fits .1, leb-true _ _ (sym (h .before .has-room .ensures) ∙ not-false _ (h .if2 .left))))
 
 same-length : tie.Need-same-length
 same-length c = search needs
 
 returns-3 : tie.Need-returns-3
 returns-3 c =
-    let b = c .before .before .before .before .before in
-    let q = b .before in
-    let passed = sym (q .before .question .ensures) ∙ q .if1 .left in
-    let room = c .before .before .before .before .if2 .left in
-    written _ _ _ _ passed (b .book-size .ensures) room (c .before .before .write-book .ensures)
+    let w = c .before .before in
+    let h = w .before .before in
+    let q = h .before .before in
+    written _ _ _ _ (sym (q .before .question .ensures) ∙ q .if1 .left) (sym (h .before .has-room .ensures) ∙ not-false _ (h .if2 .left))
+    (w .write-book .ensures .0) (w .write-book .ensures .1)
 
 pub write-spec : {M : Type 1} → statement M
 write-spec =
@@ -43,7 +45,7 @@ write-spec =
     (tie.spec
     question-requires
     returns
-    book-size-requires
+    has-room-requires
     returns-2
     write-book-requires
     same-length

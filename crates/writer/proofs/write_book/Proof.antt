@@ -89,7 +89,8 @@ returns c =
     let p = l .before .before .before in
     let s = p .before .before .before .before .before .before in
     let done = put-ended (processes-done (s .args .shape) (s .pre .0) (s .pre .1 .0) (l .loop .first) (c .loop-test .left)) (l .loop .inv .2) in
-    both-put (s .args .out .now) 0 (number-first (s .args .shape) (s .pre .0) (s .pre .1 .0)) (p .put-number .ensures) done .1
+    let stored = both-put (s .args .out .now) 0 (number-first (s .args .shape) (s .pre .0) (s .pre .1 .0)) (p .put-number .ensures) done in
+    (omega (arith, stored .0), stored .1)
 
 pub write-book-spec : {M : Type 1} → statement M
 write-book-spec =
