@@ -1,5 +1,5 @@
 -- The first rows of all processes: each is the sum of the counts before it, and one loop finds them.
-use mathlib.Core.Path.{_≡_, refl, sym, _∙_}
+use mathlib.Core.Path.{_≡_, refl, sym, _∙_, ap}
 use mathlib.Core.List.{List, [], _∷_, _++_, append-nil}
 use Prim.Native.Nat.{ℕ, zero, suc, _+_, _≤_, _<_}
 use native.Mathlib.Numerals.{add-one}
@@ -8,9 +8,9 @@ use lib.ListN.{length, take, drop, getD, set, length-set, drop-of-length-le}
 use lib.Seq.{take-all, take-suc-set, drop-cons, append-snoc}
 use Rattle.book.specs.declared.Shape.{Shape}
 use Rattle.book.specs.declared.TableRows.{TableRows}
-use Rattle.book.specs.View.{sum, firstRow, startsFrom, firstRows}
+use Rattle.book.specs.View.{sum, firstRow, startsFrom, firstRows, counterFrom, counterAt, count}
 use Rattle.book.specs.Fits.{Placed}
-use Rattle.book.proofs.Sums.{sum-more, sum-take}
+use Rattle.book.proofs.Sums.{sum-more, sum-take, row-within}
 use Rattle.book.proofs.Fits.{first-none, first-more}
 
 getD-starts : (counts : List ℕ) (first j : ℕ) → j < length counts → getD (startsFrom first counts) j 0 ≡ first + firstRow counts j
@@ -28,9 +28,18 @@ pub placed-of : {rows : TableRows} {shape : Shape} → rows .shape ≡ shape →
     → Placed rows
 placed-of e f h = record { starts = rw e f; inside = rw e h }
 
-pub placed-first : {rows : TableRows} → Placed rows → (j : ℕ) → j < length (rows .shape .counts)
-    → getD (rows .first) j 0 ≡ firstRow (rows .shape .counts) j
-placed-first {rows} placed j h = rw (placed .starts) (getD-firstRows (rows .shape .counts) j h)
+-- what one who reads counters of process j needs: where its rows begin, that a checkpoint's row is in the table, and which
+-- counter stands there
+module _ {rows : TableRows} (placed : Placed rows) (j : ℕ) (h : j < length (rows .shape .counts)) where
+  pub placed-first : getD (rows .first) j 0 ≡ firstRow (rows .shape .counts) j
+  placed-first = rw (placed .starts) (getD-firstRows (rows .shape .counts) j h)
+
+  pub placed-row : (r : ℕ) → (1 ≤ r) × (r ≤ count (rows .shape) j) → (1 ≤ r) × (getD (rows .first) j 0 + r ≤ 256)
+  placed-row r there =
+      (there .0, omega (arith, placed-first, row-within (rows .shape .counts) j r 256 (placed .inside) (there .0) (there .1)))
+
+  pub placed-counter : (table : List ℕ) (r p : ℕ) → counterFrom table (getD (rows .first) j 0) r p ≡ counterAt (rows .shape .counts) table j r p
+  placed-counter table r p = ap (λ (first : ℕ). counterFrom table first r p) placed-first
 
 -- the first rows of j processes stand there, and `row` is where the next begins
 pub record Begun (counts first : List ℕ) (row j : ℕ) : Type 0 where

@@ -23,9 +23,13 @@ startsFrom first (count ∷ counts) = first ∷ startsFrom (first + count) count
 abbrev pub firstRows : List ℕ → List ℕ
 firstRows counts = startsFrom 0 counts
 
+-- the counter in a table, of a process whose first row is known
+abbrev pub counterFrom : List ℕ → ℕ → ℕ → ℕ → ℕ
+counterFrom table first r p = getD table ((first + (r - 1)) * rowWidth + p) 0
+
 -- the counter in a table
 abbrev pub counterAt : List ℕ → List ℕ → ℕ → ℕ → ℕ → ℕ
-counterAt counts table j r p = getD table ((firstRow counts j + (r - 1)) * rowWidth + p) 0
+counterAt counts table j r p = counterFrom table (firstRow counts j) r p
 
 -- how many checkpoints process j has
 abbrev pub count : Shape → ℕ → ℕ

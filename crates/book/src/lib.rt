@@ -2,12 +2,11 @@
 // the check of tables and the writer have in common. The definitions that their contracts cite are this crate's specs.
 ghost use mathlib.Core.Path.{_≡_};
 ghost use Prim.Native.Nat.{_+_, _-_, _*_, _≤_, _<_};
-ghost use lib.ListN.{length, replicate, getD};
+ghost use lib.ListN.{length, replicate};
 ghost use lib.Seq.{sets};
 ghost use Rattle.book.specs.Tables.{column};
-ghost use Rattle.book.specs.View.{sum, firstRows, counterAt};
+ghost use Rattle.book.specs.View.{sum, firstRows, counterFrom};
 ghost use Rattle.book.specs.Questions.{zeroIfOldest, counterQuestion};
-ghost use Rattle.book.specs.Fits.{Placed};
 
 // The bounds of document 01.
 pub const MOST_PROCESSES: usize = 16;
@@ -127,17 +126,14 @@ pub fn rows_of(shape: Shape) -> TableRows
     TableRows { shape, first }
 }
 
-// The counter of process j's checkpoint r for partner p: S in the sent table, R in the received one.
-pub fn counter(rows: TableRows, table: &[Counter], j: Process, r: Checkpoint, p: Process) -> Count
-    requires { ⌜ Placed rows ⌝ }
-    requires { ⌜ (1 ≤ j .0) × (j .0 ≤ 16) ⌝ }
-    requires { ⌜ (1 ≤ r .0) × (r .0 ≤ getD (rows .shape .counts) (j .0 - 1) 0) ⌝ }
+// The counter for partner p of checkpoint r, of a process whose first row is given: S in the sent table, R in the received
+// one.
+pub fn counter(table: &[Counter], first: usize, r: Checkpoint, p: Process) -> Count
+    requires { ⌜ (1 ≤ r .0) × (first + r .0 ≤ 256) ⌝ }
     requires { ⌜ (1 ≤ p .0) × ((p .0 ≤ 16) × (length (now table) ≡ 4096)) ⌝ }
-    ensures { λ v. ⌜ v .0 ≡ counterAt (rows .shape .counts) (now (table .entry)) (j .0 - 1) (r .0) (p .0 - 1) ⌝ }
+    ensures { λ v. ⌜ v .0 ≡ counterFrom (now (table .entry)) first (r .0) (p .0 - 1) ⌝ }
 {
-    let first = rows.first;
-    let i = j.0 - 1;
-    let row = first[i] + (r.0 - 1);
+    let row = first + (r.0 - 1);
     let at = row * ROW_WIDTH + (p.0 - 1);
     Count(table[at])
 }

@@ -43,9 +43,12 @@ pub fn test_checkpoint(
 {
     let shape = rows.shape;
     let n = shape.n;
+    let firsts = rows.first;
+    let place = j.0 - 1;
+    let first = firsts[place];
     let mut p = 0;
     while p < n {
-        let had = book::counter(rows, received, j, r, Process(p + 1));
+        let had = book::counter(received, first, r, Process(p + 1));
         let sent = known[p];
         if sent.0 < had.0 {
             return Permission::Offends(Process(p + 1));
@@ -96,11 +99,12 @@ fn sent_to(rows: TableRows, sent: &[Counter], set: [Checkpoint; 16], j: Process)
 {
     let shape = rows.shape;
     let n = shape.n;
+    let first = rows.first;
     let mut known = [Count(0); 16];
     let mut p = 0;
     while p < n {
         let r = set[p];
-        known[p] = book::counter(rows, sent, Process(p + 1), r, j);
+        known[p] = book::counter(sent, first[p], r, j);
         p += 1;
     }
     known

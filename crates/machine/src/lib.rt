@@ -109,10 +109,13 @@ pub fn sent_row(rows: TableRows, sent: &[Counter], j: Process, r: Checkpoint) ->
     requires { ⌜ (1 ≤ r .0) × (r .0 ≤ count (rows .shape) (j .0 - 1)) ⌝ }
     ensures { λ a. ⌜ a ≡ asRow (λ p. S (rows .shape) (now (sent .entry)) (j .0 - 1) (r .0) p) ⌝ }
 {
+    let firsts = rows.first;
+    let place = j.0 - 1;
+    let first = firsts[place];
     let mut entries = [Count(0); 16];
     let mut p = 0;
     while p < book::MOST_PROCESSES {
-        entries[p] = book::counter(rows, sent, j, r, Process(p + 1));
+        entries[p] = book::counter(sent, first, r, Process(p + 1));
         p += 1;
     }
     entries

@@ -14,7 +14,6 @@ use Rattle.book.specs.declared.Count.{Count}
 use Rattle.line_theory.proofs.Over.{tab-is}
 use Rattle.consistency.specs.Known.{counters}
 use Rattle.consistency.specs.Set.{chosen}
-use Rattle.consistency.proofs.Permits.{from-one}
 use Rattle.consistency.proofs.Fills.{fill-more, fill-rest}
 use Rattle.matrix.specs.Matrix.{pick}
 use Rattle.matrix.proofs.Rows.{filled-matrix}
@@ -58,6 +57,18 @@ filled-more {A} {size} {n} {d} {f} {l} {k} v filled h here =
       long = simp length-set (filled .long);
       done = fill-more P d l k v (omega (arith, filled .long, filled .room)) (filled .done) here;
       rest = λ i m. fill-rest d l all k v (λ j o. filled .rest j o ∙ sym (getD-same size d j)) i m ∙ getD-same size d i;
+    }
+
+-- the same values said another way
+pub filled-as : {A : Type 0} {size n : ℕ} {d : A} {f g : ℕ → A} {l : List A} {k : ℕ} → FilledTo size n d f l k → ((i : ℕ) → i < n → f i ≡ g i)
+    → FilledTo size n d g l k
+filled-as filled same =
+    record {
+      room = filled .room;
+      within = filled .within;
+      long = filled .long;
+      done = λ i m. filled .done i m ∙ same i (omega (arith, filled .within));
+      rest = filled .rest;
     }
 
 -- what stands at a place in the end
@@ -113,7 +124,3 @@ filled-rows n f {l} filled h =
         ap (λ (v : Count). v .0) (filled-at filled h i)
         ∙ pick-field (λ (v : Count). v .0) (ltb i (n * 16)) (tally (f (i / 16) (i % 16))) (tally 0)
         ∙ ap (λ (b : Bool). pick b (f (i / 16) (i % 16)) 0) (rows-before i n)
-
--- process and partner of an entry count from 1 where it is read
-pub from-ones : (f : ℕ → ℕ → ℕ) (i v : ℕ) → v ≡ f (i / 16 + 1 - 1) (i % 16 + 1 - 1) → v ≡ f (i / 16) (i % 16)
-from-ones f i v h = rw (from-one (i / 16), from-one (i % 16)) at h

@@ -158,12 +158,13 @@ fn held_by(rows: TableRows, table: &[Counter], line: [Checkpoint; 16]) -> [Count
 {
     let shape = rows.shape;
     let n = shape.n;
+    let first = rows.first;
     let mut held = [Count(0); 256];
     let mut i = 0;
     while i < n * book::ROW_WIDTH {
         let j = i / book::ROW_WIDTH;
         let p = i % book::ROW_WIDTH;
-        held[i] = book::counter(rows, table, Process(j + 1), line[j], Process(p + 1));
+        held[i] = book::counter(table, first[j], line[j], Process(p + 1));
         i += 1;
     }
     held

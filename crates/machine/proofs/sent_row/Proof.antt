@@ -1,32 +1,52 @@
 -- `sent_row` meets its contract. The invariant: the entries so far are the checkpoint's.
-use mathlib.Core.Path.{refl, _∙_, ap}
-use Prim.Native.Nat.{ℕ, _-_}
+use mathlib.Core.Path.{_≡_, refl, _∙_, ap}
+use Prim.Native.Nat.{ℕ, _-_, _<_}
 use native.Mathlib.Omega.{arith}
 use borrow.Author.Needs.{needs}
-use Rattle.book.specs.View.{S}
+use lib.ListN.{length, getD}
+use Rattle.book.specs.View.{counterFrom}
+use Rattle.book.proofs.Starts.{placed-first, placed-row}
 use Rattle.consistency.proofs.Permits.{from-one}
 use Rattle.matrix.proofs.Rows.{Filled, filled-none, filled-more, filled-row}
 use Rattle.machine.proofs.sent_row.Statement.{statement}
 use Rattle.machine.proofs.sent_row.Tie as tie
 
 abbrev Inv-loop : tie.InvT-loop
-Inv-loop rows sent j r entries₀ p₀ entries p = Filled 16 (λ q. S (rows .shape) sent (j .0 - 1) (r .0) q) entries p
+Inv-loop sent r place first entries₀ p₀ entries p = Filled 16 (λ q. counterFrom sent first (r .0) q) entries p
 
 abbrev μ-loop : tie.MeasureT-loop
-μ-loop rows sent j r entries₀ p₀ entries p = 16 - p
+μ-loop sent r place first entries₀ p₀ entries p = 16 - p
+
+sub-place : tie.Need-sub-place Inv-loop μ-loop
+sub-place c = search needs
+
+mul-first : tie.Need-mul-first Inv-loop μ-loop
+mul-first c = omega arith
+
+array-read-first : tie.Need-array-read-first Inv-loop μ-loop
+array-read-first c = omega (arith, c .before .before .before .pre .0 .0 .most)
 
 loop-holds : tie.Need-loop-holds Inv-loop μ-loop
 loop-holds c =
-    let a = c .before .args in
-    filled-none 16 (λ q. S (a .rows .shape) (a .sent .now) (a .j .0 - 1) (a .r .0) q) _ refl
+    let a = c .before .before .before .args in
+    filled-none 16 (λ q. counterFrom (a .sent .now) (getD (a .rows .first) (a .j .0 - 1) 0) (a .r .0) q) _ refl
 
-add-t10 : tie.Need-add-t10 Inv-loop μ-loop
-add-t10 c = omega arith
+-- where the first row is taken out
+there : (c : tie.After-struct-known Inv-loop μ-loop) → let a = c .before .before .before .args in a .j .0 - 1 < length (a .rows .shape .counts)
+there c =
+    let at = c .before .before .before in
+    let long : length (at .args .rows .shape .counts) ≡ 16 = search needs in
+    omega (arith, at .pre .0 .0 .most)
+
+add-t17 : tie.Need-add-t17 Inv-loop μ-loop
+add-t17 c = omega arith
 
 counter-requires : tie.Need-counter-requires Inv-loop μ-loop
 counter-requires c κs =
-    let pre = c .before .before .before .pre in
-    (pre .0 .0 .placed, ((pre .0 .1 .0, omega (arith, pre .0 .1, pre .0 .0 .most)), (pre .1, (omega arith, (omega arith, pre .0 .0 .long)))))
+    let at = c .before .before .before .before .before in (
+      placed-row (at .pre .0 .0 .placed) (at .args .j .0 - 1) (there (c .before .before)) (at .args .r .0) (at .pre .1),
+      (omega arith, (omega arith, at .pre .0 .0 .long)),
+    )
 
 mul-entries : tie.Need-mul-entries Inv-loop μ-loop
 mul-entries c = omega arith
@@ -42,18 +62,19 @@ loop-less c = search needs
 
 loop-again : tie.Need-loop-again Inv-loop μ-loop
 loop-again c =
-    let a = c .before .before .before .before .args in
+    let a = c .before .before .before .before .before .before .args in
     let at-loop = c .before .before .loop in
-    let f : ℕ → ℕ = λ q. S (a .rows .shape) (a .sent .now) (a .j .0 - 1) (a .r .0) q in
+    let f : ℕ → ℕ = λ q. counterFrom (a .sent .now) (getD (a .rows .first) (a .j .0 - 1) 0) (a .r .0) q in
     filled-more 16 f (at-loop .entries) (at-loop .p) (c .counter .result) (at-loop .inv) (c .before .loop-test .taken)
     (c .counter .ensures ∙ ap f (from-one (at-loop .p)))
 
 returns : tie.Need-returns Inv-loop μ-loop
 returns c =
-    let a = c .before .before .before .args in
-    filled-row (λ q. S (a .rows .shape) (a .sent .now) (a .j .0 - 1) (a .r .0) q) (c .before .loop .entries) (c .before .loop .p)
+    let at = c .before .before .before .before .before in
+    rw (← placed-first (at .pre .0 .0 .placed) (at .args .j .0 - 1) (there (c .before .before)))
+    (filled-row (λ q. counterFrom (at .args .sent .now) _ (at .args .r .0) q) (c .before .loop .entries) (c .before .loop .p)
     (c .before .loop .inv)
-    (c .loop-test .left)
+    (c .loop-test .left))
 
 pub sent-row-spec : {M : Type 1} → statement M
 sent-row-spec =
@@ -61,8 +82,11 @@ sent-row-spec =
     (tie.spec
     Inv-loop
     μ-loop
+    sub-place
+    mul-first
+    array-read-first
     loop-holds
-    add-t10
+    add-t17
     counter-requires
     mul-entries
     array-set-from-entries
