@@ -1,25 +1,24 @@
 -- The flags of a set's processes, place by place.
-use mathlib.Core.Path.{_≡_, refl, ap, _∙_}
-use mathlib.Core.Bool.{Bool, false, not, _||_}
+use mathlib.Core.Path.{_≡_, refl, sym}
+use mathlib.Core.Bool.{Bool, true, false, _||_, or-true, or-false}
 use mathlib.Core.List.{List}
-use Prim.Native.Nat.{ℕ, _+_, _-_, _≤_, _<_}
+use Prim.Native.Nat.{ℕ, _+_, _≤_, _<_}
 use native.Mathlib.Omega.{arith}
-use lib.ListN.{length, getD, set, length-set}
-use lib.Dec.{ltb}
+use borrow.Author.Tests.{lt-ltb, le-ltb}
+use lib.ListN.{length, set, length-set}
 use Rattle.line_theory.specs.Sets.{View, receivedMore}
 use Rattle.line_theory.specs.Search.{sentTo}
-use Rattle.consistency.specs.declared.Permission.{Permission}
-use Rattle.consistency.specs.Known.{isPermitted}
-use Rattle.consistency.specs.Given.{InSet}
+use Rattle.line_theory.proofs.Tests.{permitted-out, refused-by}
+use Rattle.consistency.proofs.Fills.{below-more, fill-more, fill-rest}
 use Rattle.finder.specs.Steps.{mustStepBack, flagged}
-use Rattle.consistency.proofs.Permits.{from-one, permits-is}
-use Rattle.consistency.proofs.Fills.{fill-more, fill-rest}
 
--- whether a process must step back, from the test of its checkpoint
-pub must-step-back-is : (v : View) (c : ℕ → ℕ) (i j : ℕ) (a : Permission) (b : Bool) → i ≡ j → InSet v c i a → b ≡ isPermitted a
-    → not b ≡ mustStepBack v c j
-must-step-back-is v c i j a b e h k =
-    ap not (k ∙ permits-is (v .n) (v .R i (c i)) (sentTo v c i) a h) ∙ ap (mustStepBack v c) e
+-- ---- whether one must step back, partner by partner
+
+pub must-here : (v : View) (c : ℕ → ℕ) (j p : ℕ) → p < v .n → v .S p (c p) j < v .R j (c j) p → true ≡ mustStepBack v c j
+must-here v c j p k more = rw (refused-by (v .n) (v .R j (c j)) (sentTo v c j) p k more)
+
+pub need-not : (v : View) (c : ℕ → ℕ) (j : ℕ) → ((p : ℕ) → p < v .n → v .R j (c j) p ≤ v .S p (c p) j) → false ≡ mustStepBack v c j
+need-not v c j all = rw (permitted-out (v .n) (v .R j (c j)) (sentTo v c j) all)
 
 -- ---- flags set beside those that are set
 
@@ -33,16 +32,26 @@ pub record Flagging (v : View) (c : ℕ → ℕ) (j : ℕ) (before flags : List 
 pub flagging-none : (v : View) (c : ℕ → ℕ) (j : ℕ) (flags : List Bool) → length flags ≡ 16 → Flagging v c j flags flags 0
 flagging-none v c j flags h = record { within = omega arith; long = h; done = λ q i. absurd (omega arith); rest = λ q i. refl }
 
-pub flagging-more : {v : View} {c : ℕ → ℕ} {j : ℕ} {before flags : List Bool} {p : ℕ} (gave had : ℕ) (b : Bool) → v .n ≤ 16
-    → Flagging v c j before flags p → p < v .n → gave ≡ v .S j (c j) (p + 1 - 1) → had ≡ v .R (p + 1 - 1) (c p) j
-    → b ≡ (getD flags p false || ltb gave had) → Flagging v c j before (set flags p b) (p + 1)
-flagging-more {v} {c} {j} {before} {flags} {p} gave had b most f i g h e =
-    let P : ℕ → Bool → Type 0 = λ q f′. f′ ≡ (flagged before q || receivedMore v c q j) in
-    let same : ltb gave had ≡ receivedMore v c p j = rw (g, h, from-one p) in
-    let here : b ≡ (flagged before p || receivedMore v c p j) = rw (e, f .rest p (omega arith), same) in
-    record {
-      within = omega arith;
-      long = simp length-set (f .long);
-      done = fill-more P false flags p b (omega (arith, f .long)) (f .done) here;
-      rest = fill-rest false flags before p b (f .rest);
-    }
+module _ {v : View} {c : ℕ → ℕ} {j : ℕ} {before flags : List Bool} {p : ℕ} (most : v .n ≤ 16) (f : Flagging v c j before flags p) (there : p < v .n) where
+  pub flagging-more : v .S j (c j) p < v .R p (c p) j → Flagging v c j before (set flags p true) (p + 1)
+  flagging-more more =
+      let P : ℕ → Bool → Type 0 = λ q b. b ≡ (flagged before q || receivedMore v c q j) in
+      let here : true ≡ (flagged before p || receivedMore v c p j)
+      = rw (lt-ltb (v .S j (c j) p) (v .R p (c p) j) more) (sym (or-true (flagged before p))) in
+      record {
+        within = omega arith;
+        long = simp length-set (f .long);
+        done = fill-more P false flags p true (omega (arith, f .long)) (f .done) here;
+        rest = fill-rest false flags before p true (f .rest);
+      }
+
+  pub flagging-kept : v .R p (c p) j ≤ v .S j (c j) p → Flagging v c j before flags (p + 1)
+  flagging-kept less =
+      let here : flagged flags p ≡ (flagged before p || receivedMore v c p j)
+      = rw (le-ltb (v .S j (c j) p) (v .R p (c p) j) less, f .rest p (omega arith)) (sym (or-false (flagged before p))) in
+      record {
+        within = omega arith;
+        long = f .long;
+        done = below-more (λ q. flagged flags q ≡ (flagged before q || receivedMore v c q j)) p (f .done) here;
+        rest = λ q i. f .rest q (omega arith);
+      }

@@ -1,4 +1,5 @@
 pub mod Sixteen
+pub mod Rows
 pub mod Flags
 pub mod StepsBack
 pub mod Calls

@@ -4,13 +4,13 @@ use mathlib.Core.List.{List}
 use Prim.Native.Nat.{ℕ, _≤_, _<_}
 use native.Mathlib.Decide.{decLt}
 use native.Mathlib.Omega.{arith}
-use lib.ListN.{length, getD, List·getD-eq-default}
+use lib.ListN.{length, getD, length-replicate, getD-replicate, List·getD-eq-default}
 use lib.Seq.{ext-getD}
 use Rattle.book.specs.declared.Checkpoint.{Checkpoint}
 use Rattle.line_theory.specs.Over.{tab}
 use Rattle.line_theory.proofs.Over.{length-tab, getD-tab}
 use Rattle.consistency.specs.Set.{chosen}
-use Rattle.finder.specs.Line.{checkpoints}
+use Rattle.finder.specs.Line.{checkpoints, noLine}
 
 -- a set that has these numbers is made of them
 pub checkpoints-are : (set : List Checkpoint) (c : ℕ → ℕ) → length set ≡ 16 → ((j : ℕ) → j < 16 → chosen set j ≡ c j) → set ≡ checkpoints c
@@ -28,6 +28,15 @@ unfolding checkpoints
 chosen-there c j small =
     let f : ℕ → Checkpoint = λ i. record { 0 = c i } in
     ap (λ (r : Checkpoint). r .0) (getD-tab 16 f j (record { 0 = 0 }) small)
+
+-- no checkpoints
+pub chosen-none : (j : ℕ) → chosen noLine j ≡ 0
+chosen-none j =
+    let zero : Checkpoint = record { 0 = 0 } in
+    elim (decLt j 16) [
+      | yes k ↦ ap (λ (r : Checkpoint). r .0) (getD-replicate 16 j zero zero k)
+      | no k ↦ ap (λ (r : Checkpoint). r .0) (List·getD-eq-default noLine zero {n = j} (omega (arith, length-replicate 16 zero)))
+    ]
 
 -- as functions, where the numbers are zero from the sixteenth on
 pub chosen-of : (c : ℕ → ℕ) → ((j : ℕ) → 16 ≤ j → c j ≡ 0) → chosen (checkpoints c) ≡ c

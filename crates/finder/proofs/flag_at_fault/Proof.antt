@@ -1,83 +1,72 @@
 -- `flag_at_fault` meets its contract.
-use mathlib.Core.Path.{_≡_}
-use Prim.Native.Nat.{_-_}
+use mathlib.Core.Path.{sym, subst}
+use mathlib.Core.Bool.{Bool}
+use mathlib.Core.List.{List}
+use mathlib.Core.Logic.{⊎-elim}
+use Prim.Native.Nat.{_+_, _-_, _<_}
 use native.Mathlib.Omega.{arith}
 use borrow.Author.Needs.{needs}
-use lib.ListN.{length}
-use Rattle.line_theory.specs.OfTables.{viewOf}
-use Rattle.consistency.specs.Set.{chosen}
-use Rattle.finder.proofs.Flags.{Flagging, flagging-none, flagging-more}
-use Rattle.consistency.proofs.Permits.{from-one}
+use Rattle.finder.specs.Steps.{rowOf, byRow}
+use Rattle.finder.proofs.Flags.{Flagging, flagging-none, flagging-more, flagging-kept}
 use Rattle.finder.proofs.flag_at_fault.Statement.{statement}
 use Rattle.finder.proofs.flag_at_fault.Tie as tie
 
 abbrev Inv-loop : tie.InvT-loop
-Inv-loop rows sent received j set n i own next₀ p₀ next p =
-    Flagging (viewOf (rows .shape) sent received) (chosen set) (j .0 - 1) next₀ next p
+Inv-loop sent received at flags₀ n j own p₀ flags p = Flagging (byRow n sent received) (rowOf at) j flags₀ flags p
 
 abbrev μ-loop : tie.MeasureT-loop
-μ-loop rows sent received j set n i own next₀ p₀ next p = n - p
+μ-loop sent received at flags₀ n j own p₀ flags p = n - p
 
-sub-i : tie.Need-sub-i Inv-loop μ-loop
-sub-i c = search needs
+-- the rows of the two processes that are compared
+own-row : (c : tie.Start Inv-loop μ-loop) → rowOf (c .args .at .now) (c .args .j) < 256
+own-row c = c .pre .0 .rows (c .args .j) (c .pre .1 .0)
+
+other-row : (c : tie.In-loop Inv-loop μ-loop) → rowOf (c .before .before .before .args .at .now) (c .before .loop .p) < 256
+other-row c = c .before .before .before .pre .0 .rows (c .before .loop .p) (omega arith)
 
 mul-own : tie.Need-mul-own Inv-loop μ-loop
 mul-own c = omega arith
 
-array-copy-out-own : tie.Need-array-copy-out-own Inv-loop μ-loop
-array-copy-out-own c = omega arith
+element-copy-out-own : tie.Need-element-copy-out-own Inv-loop μ-loop
+element-copy-out-own c = omega arith
+
+mul-own-2 : tie.Need-mul-own-2 Inv-loop μ-loop
+mul-own-2 c = omega (arith, own-row (c .before))
 
 loop-holds : tie.Need-loop-holds Inv-loop μ-loop
 loop-holds c =
-    let a = c .before .before .before .before .before .args in
-    let long : length (a .flags) ≡ 16 = search needs in
-    flagging-none (viewOf (a .rows .shape) (a .sent .now) (a .received .now)) (chosen (a .t4)) (a .j .0 - 1) (a .flags) long
+    let a = c .before .args in
+    flagging-none (byRow (a .n) (a .sent .now) (a .received .now)) (rowOf (a .at .now)) (a .j) (a .flags .now) (c .before .pre .1 .1)
 
-mul-r : tie.Need-mul-r Inv-loop μ-loop
-mul-r c = omega arith
+mul-other : tie.Need-mul-other Inv-loop μ-loop
+mul-other c = omega arith
 
-array-copy-out-r : tie.Need-array-copy-out-r Inv-loop μ-loop
-array-copy-out-r c = omega arith
+element-copy-out-other : tie.Need-element-copy-out-other Inv-loop μ-loop
+element-copy-out-other c = omega arith
 
-add-t22 : tie.Need-add-t22 Inv-loop μ-loop
-add-t22 c = omega arith
+mul-other-2 : tie.Need-mul-other-2 Inv-loop μ-loop
+mul-other-2 c = omega (arith, other-row (c .before))
 
-counter-requires : tie.Need-counter-requires Inv-loop μ-loop
-counter-requires c κs =
-    let at-loop = c .before .before in
-    let a = at-loop .before .before .before .before .before .before .args in
-    let pre = at-loop .before .before .before .before .before .before .pre in
-    let j = a .j .0 - 1 in (
-      pre .0 .in-sent .placed,
-      (
-        (omega arith, omega arith),
-        ((pre .0 .is-set .some j (omega arith), pre .0 .is-set .among j (omega arith)), (omega arith, (omega arith, pre .0 .in-sent .long))),
-      ),
-    )
+add-if1 : tie.Need-add-if1 Inv-loop μ-loop
+add-if1 c = omega (arith, own-row (c .before .before .before .before))
 
-add-t22-2 : tie.Need-add-t22-2 Inv-loop μ-loop
-add-t22-2 c = omega arith
+mul-if1 : tie.Need-mul-if1 Inv-loop μ-loop
+mul-if1 c = omega (arith, own-row (c .before .before .before .before))
 
-counter-requires-2 : tie.Need-counter-requires-2 Inv-loop μ-loop
-counter-requires-2 c κs =
-    let at-loop = c .before .before .before in
-    let pre = at-loop .before .before .before .before .before .before .pre in
-    let p = at-loop .loop .p in (
-      pre .0 .in-received .placed,
-      (
-        (omega arith, omega arith),
-        ((pre .0 .is-set .some p (omega arith), rw (from-one p) (pre .0 .is-set .among p (omega arith))), (omega arith, (omega arith, pre .0 .in-received .long))),
-      ),
-    )
+shared-slice-read-if1 : tie.Need-shared-slice-read-if1 Inv-loop μ-loop
+shared-slice-read-if1 c = omega (arith, own-row (c .before .before .before .before .before))
 
-array-read-flag-or : tie.Need-array-read-flag-or Inv-loop μ-loop
-array-read-flag-or c = omega arith
+add-if1-2 : tie.Need-add-if1-2 Inv-loop μ-loop
+add-if1-2 c = omega (arith, other-row (c .before .before))
 
-flag-or-requires : tie.Need-flag-or-requires Inv-loop μ-loop
-flag-or-requires c κs = search needs
+mul-if1-2 : tie.Need-mul-if1-2 Inv-loop μ-loop
+mul-if1-2 c = omega (arith, other-row (c .before .before))
 
-array-write-next : tie.Need-array-write-next Inv-loop μ-loop
-array-write-next c = omega arith
+shared-slice-read-if1-2 : tie.Need-shared-slice-read-if1-2 Inv-loop μ-loop
+shared-slice-read-if1-2 c = omega (arith, other-row (c .before .before .before))
+
+element-write-flags : tie.Need-element-write-flags Inv-loop μ-loop
+element-write-flags c = omega arith
 
 add-p : tie.Need-add-p Inv-loop μ-loop
 add-p c = omega arith
@@ -88,12 +77,16 @@ loop-less c = search needs
 loop-again : tie.Need-loop-again Inv-loop μ-loop
 loop-again c =
     let at-loop = c .before .before .before .before .before in
-    let pre = at-loop .before .before .before .before .before .before .pre in
-    flagging-more (c .before .before .counter .result .0) (c .before .counter2 .result .0) (c .flag-or .result) (pre .0 .in-sent .most) (at-loop .loop .inv)
-    (omega arith) (c .before .before .counter .ensures) (c .before .counter2 .ensures) (c .flag-or .ensures)
+    let a = at-loop .before .before .args in
+    let most = at-loop .before .before .pre .0 .most in
+    let P : List Bool → Type 0 = λ l. Flagging (byRow (a .n) (a .sent .now) (a .received .now)) (rowOf (a .at .now)) (a .j) (a .flags .now) l (at-loop .loop .p + 1) in
+    ⊎-elim
+    (λ t. subst P (sym (t .1)) (flagging-more most (at-loop .loop .inv) (omega arith) (t .0 .taken)))
+    (λ t. subst P (sym (t .1)) (flagging-kept most (at-loop .loop .inv) (omega arith) (t .0 .left)))
+    (c .if1 .came)
 
 returns : tie.Need-returns Inv-loop μ-loop
-returns c = λ p i. c .before .loop .inv .done p (omega arith)
+returns c = (λ p i. c .before .loop .inv .done p (omega arith), c .before .loop .inv .long)
 
 pub flag-at-fault-spec : {M : Type 1} → statement M
 flag-at-fault-spec =
@@ -101,19 +94,20 @@ flag-at-fault-spec =
     (tie.spec
     Inv-loop
     μ-loop
-    sub-i
     mul-own
-    array-copy-out-own
+    element-copy-out-own
+    mul-own-2
     loop-holds
-    mul-r
-    array-copy-out-r
-    add-t22
-    counter-requires
-    add-t22-2
-    counter-requires-2
-    array-read-flag-or
-    flag-or-requires
-    array-write-next
+    mul-other
+    element-copy-out-other
+    mul-other-2
+    add-if1
+    mul-if1
+    shared-slice-read-if1
+    add-if1-2
+    mul-if1-2
+    shared-slice-read-if1-2
+    element-write-flags
     add-p
     loop-less
     loop-again
