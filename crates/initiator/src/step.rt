@@ -4,18 +4,14 @@ use crate::InitiatorStep;
 use book::Checkpoint;
 use book::Count;
 use book::Counter;
-use book::Process;
 use book::TableRows;
 use mail::Outgoing;
 use message::Head;
 use message::Message;
 ghost use mathlib.Core.Path.{_≡_};
-ghost use mathlib.Core.Bool.{_&&_, not};
 ghost use Prim.Native.Nat.{_-_, _≤_, _<_};
-ghost use Rattle.matrix.specs.Matrix.{column};
-ghost use Rattle.matrix.specs.Entries.{same};
 ghost use Rattle.machine.specs.Own.{ownOf};
-ghost use Rattle.machine.specs.Named.{isParticipant, countLimit};
+ghost use Rattle.machine.specs.Named.{countLimit};
 ghost use Rattle.machine.specs.Given.{Given};
 ghost use Rattle.initiator.specs.Step.{wholeIfFirst, awaits, takeReport, stepBack, polled, poll, terminate, compare, silent, step};
 
@@ -127,46 +123,35 @@ impl Initiator {
         }
     }
 
-    // Does the column of process p, which counts from 0, differ from the copy's, p being a participant?
-    fn is_polled(self, p: usize) -> bool
-        requires { ⌜ (1 ≤ self .me .0) × (p < 16) ⌝ }
-        ensures { λ r. ⌜ r ≡ (isParticipant (self .n) (self .me .0 - 1) p && not (same (column (self .matrix) p) (column (self .copy) p))) ⌝ }
-    {
-        let me = self.me;
-        let matrix = self.matrix;
-        let copy = self.copy;
-        if !machine::is_participant(self.n, me.0 - 1, p) {
-            return false;
-        }
-        !matrix::same(
-            matrix::column(matrix, Process(p + 1)),
-            matrix::column(copy, Process(p + 1)),
-        )
-    }
-
     // Each participant whose column differs from the copy.
     fn polled(self) -> [bool; 16]
         requires { ⌜ 1 ≤ self .me .0 ⌝ }
         ensures { λ r. ⌜ r ≡ polled self ⌝ }
     {
+        let n = self.n;
+        let me = self.me;
+        let matrix = self.matrix;
+        let copy = self.copy;
+        let own = me.0 - 1;
+        let differ = matrix::columns_differ(matrix, copy);
         let mut flags = [false; 16];
         let mut p = 0;
         while p < book::MOST_PROCESSES {
-            flags[p] = self.is_polled(p);
+            flags[p] = machine::is_participant(n, own, p) && differ[p];
             p += 1;
         }
         flags
     }
 
     // A poll goes to them.
-    fn poll(self) -> InitiatorStep
-        requires { ⌜ (1 ≤ self .me .0) × (self .rounds < countLimit) ⌝ }
+    fn poll(self, to: [bool; 16]) -> InitiatorStep
+        requires { ⌜ self .rounds < countLimit ⌝ }
+        requires { ⌜ to ≡ polled self ⌝ }
         ensures { λ r. ⌜ r ≡ poll self ⌝ }
     {
         let me = self.me;
         let matrix = self.matrix;
         let copy = self.copy;
-        let to = self.polled();
         let news = matrix::polls(matrix, copy);
         let head = Head {
             kind: 2,
@@ -217,7 +202,7 @@ impl Initiator {
     {
         let to = self.polled();
         if machine::someone(to) {
-            return self.poll();
+            return self.poll(to);
         }
         self.terminate()
     }

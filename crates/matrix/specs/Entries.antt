@@ -37,6 +37,10 @@ same a b = allTo mostProcesses (λ p. eqb (counters a p) (counters b p))
 unfoldable pub restZero : ℕ → ℕ → List Count → Bool
 restZero n j a = allTo mostProcesses (λ p. isPair n j p || eqb (counters a p) 0)
 
+-- the entries from a place on are zero
+unfoldable pub zeroFrom : ℕ → List Count → Bool
+zeroFrom from a = allTo mostProcesses (λ p. ltb p from || eqb (counters a p) 0)
+
 -- no entry is above the other row's
 unfoldable pub noneAbove : List Count → List Count → Bool
 noneAbove a b = allTo mostProcesses (λ p. leb (counters a p) (counters b p))

@@ -1,13 +1,13 @@
--- Tests of a whole matrix, row by row, and news for each receiver: a matrix whose row p is what process p is told.
-use mathlib.Core.Bool.{Bool}
+-- Tests of a whole matrix, row by row or column by column, and news for each receiver: a matrix whose row p is what process p is told.
+use mathlib.Core.Bool.{Bool, not}
 use mathlib.Core.List.{List}
 use Prim.Native.Nat.{ℕ}
 use lib.Dec.{eqb}
 use Rattle.book.specs.declared.Count.{Count}
 use Rattle.book.specs.Bounds.{mark, mostProcesses}
-use Rattle.line_theory.specs.Over.{allTo}
+use Rattle.line_theory.specs.Over.{allTo, tab}
 use Rattle.consistency.specs.Known.{counters}
-use Rattle.matrix.specs.Matrix.{pick, asMatrix, entry, row, notKnownRow}
+use Rattle.matrix.specs.Matrix.{pick, asMatrix, entry, row, column, notKnownRow}
 use Rattle.matrix.specs.Entries.{differing, same, restZero, noneAbove}
 
 -- "diagonal and absent entries are zero"
@@ -21,6 +21,10 @@ allNotKnown n matrix = allTo mostProcesses (λ j. same (row matrix j) (notKnownR
 -- "No matrix entry is above the copy's"
 unfoldable pub allNoneAbove : List Count → List Count → Bool
 allNoneAbove matrix copy = allTo mostProcesses (λ j. noneAbove (row matrix j) (row copy j))
+
+-- "whose column differs from the copy": for each process, whether its does
+unfoldable pub columnsDiffer : List Count → List Count → List Bool
+columnsDiffer matrix copy = tab mostProcesses (λ p. not (same (column matrix p) (column copy p)))
 
 -- of an invitation: one pair, naming the sender: `me` has sent p so many
 abbrev pub invitations : ℕ → List Count → List Count

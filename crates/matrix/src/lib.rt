@@ -8,14 +8,13 @@ use book::Process;
 pub use whole::all_none_above;
 pub use whole::all_not_known;
 pub use whole::all_rest_zero;
+pub use whole::columns_differ;
 pub use whole::invitations;
 pub use whole::polls;
 ghost use mathlib.Core.Path.{_≡_};
-ghost use mathlib.Core.Bool.{_||_};
 ghost use Prim.Native.Nat.{_-_, _≤_};
-ghost use lib.Dec.{eqb};
 ghost use Rattle.matrix.specs.Matrix.{row, column, withRow, isPair, notKnownAt, notKnownRow, notKnownMatrix};
-ghost use Rattle.matrix.specs.Entries.{differing, changed, diff, patch, same, restZero, noneAbove, allLower};
+ghost use Rattle.matrix.specs.Entries.{differing, changed, diff, patch, same, zeroFrom, restZero, allLower};
 
 // The mark for "not known", as an entry.
 pub const NOT_KNOWN: Counter = 4294967295;
@@ -58,17 +57,12 @@ pub fn with_row(matrix: [Count; 256], j: Process, entries: [Count; 16]) -> [Coun
     requires { ⌜ (1 ≤ j .0) × (j .0 ≤ 16) ⌝ }
     ensures { λ r. ⌜ r ≡ withRow matrix (j .0 - 1) entries ⌝ }
 {
-    let mut next = [Count(0); 256];
-    let down = j.0 - 1;
-    let mut i = 0;
-    while i < ENTRIES {
-        let across = i % book::ROW_WIDTH;
-        if i / book::ROW_WIDTH == down {
-            next[i] = entries[across];
-        } else {
-            next[i] = matrix[i];
-        }
-        i += 1;
+    let mut next = matrix;
+    let first = (j.0 - 1) * book::ROW_WIDTH;
+    let mut p = 0;
+    while p < book::ROW_WIDTH {
+        next[first + p] = entries[p];
+        p += 1;
     }
     next
 }
@@ -179,47 +173,38 @@ pub fn same(a: [Count; 16], b: [Count; 16]) -> bool
     true
 }
 
-// Is an entry zero, where it is not for two processes that there are? Both count from 0.
-fn zero_or_pair(n: usize, j: usize, p: usize, v: Count) -> bool
-    ensures { λ r. ⌜ r ≡ (isPair n j p || eqb (v .0) 0) ⌝ }
+// Are the entries from a place on zero?
+fn zero_from(from: usize, a: [Count; 16]) -> bool
+    ensures { λ r. ⌜ r ≡ zeroFrom from a ⌝ }
 {
-    if is_pair(n, j, p) {
-        return true;
+    let mut p = from;
+    while p < book::MOST_PROCESSES {
+        let x = a[p];
+        if x.0 != 0 {
+            return false;
+        }
+        p += 1;
     }
-    v.0 == 0
+    true
 }
 
-// Are the diagonal and the entries of absent processes zero, in what process j sent or was sent?
+// Are the diagonal and the entries of absent processes zero, in what process j sent or was sent? Only those are looked at.
 pub fn rest_zero(n: usize, j: Process, a: [Count; 16]) -> bool
     requires { ⌜ 1 ≤ j .0 ⌝ }
     ensures { λ r. ⌜ r ≡ restZero n (j .0 - 1) a ⌝ }
 {
     let down = j.0 - 1;
-    let mut p = 0;
-    while p < book::MOST_PROCESSES {
-        let x = a[p];
-        if !zero_or_pair(n, down, p, x) {
-            return false;
-        }
-        p += 1;
+    if n <= down {
+        return zero_from(0, a);
     }
-    true
-}
-
-// Is no entry above the other row's?
-fn none_above(a: [Count; 16], b: [Count; 16]) -> bool
-    ensures { λ r. ⌜ r ≡ noneAbove a b ⌝ }
-{
-    let mut p = 0;
-    while p < book::MOST_PROCESSES {
-        let x = a[p];
-        let y = b[p];
-        if y.0 < x.0 {
-            return false;
-        }
-        p += 1;
+    if book::MOST_PROCESSES <= down {
+        return zero_from(n, a);
     }
-    true
+    let own = a[down];
+    if own.0 != 0 {
+        return false;
+    }
+    zero_from(n, a)
 }
 
 // Is every counter of the news lower than the entry held?

@@ -1,81 +1,53 @@
--- `rest_zero` meets its contract. The invariant: the entries so far are zero or for a pair.
+-- `rest_zero` meets its contract: by where process j stands, and whether its own entry is zero.
 use mathlib.Core.Path.{sym, _∙_}
-use mathlib.Core.Bool.{Bool, _||_}
-use Prim.Native.Nat.{ℕ, _-_}
 use native.Mathlib.Omega.{arith}
 use borrow.Author.Needs.{needs}
-use borrow.Author.Tests.{not-true, not-false}
-use lib.Dec.{eqb}
-use Rattle.line_theory.proofs.Over.{all-not}
-use Rattle.consistency.specs.Known.{counters}
-use Rattle.matrix.specs.Matrix.{isPair}
-use Rattle.matrix.specs.Entries.{restZero}
-use Rattle.matrix.proofs.Before.{Before, before-none, before-more, before-all}
+use Rattle.matrix.proofs.Zeros.{rest-absent, rest-from, rest-fails}
 use Rattle.matrix.proofs.rest_zero.Statement.{statement}
 use Rattle.matrix.proofs.rest_zero.Tie as tie
 
-abbrev Inv-loop : tie.InvT-loop
-Inv-loop n a down p₀ p = Before (λ k. isPair n down k || eqb (counters a k) 0) p
+sub-down : tie.Need-sub-down
+sub-down c = search needs
 
-abbrev μ-loop : tie.MeasureT-loop
-μ-loop n a down p₀ p = 16 - p
+zero-from-requires : tie.Need-zero-from-requires
+zero-from-requires c κs = search needs
 
-sub-down : tie.Need-sub-down Inv-loop μ-loop
-sub-down c = omega arith
+returns : tie.Need-returns
+returns c = c .zero-from .ensures ∙ sym (rest-absent _ _ _ (c .before .if1 .taken))
 
-loop-holds : tie.Need-loop-holds Inv-loop μ-loop
-loop-holds c =
-    let a = c .before .args in
-    before-none (λ k. isPair (a .n) (a .j .0 - 1) k || eqb (counters (a .t3) k) 0)
+zero-from-requires-2 : tie.Need-zero-from-requires-2
+zero-from-requires-2 c κs = search needs
 
-mul-x : tie.Need-mul-x Inv-loop μ-loop
-mul-x c = omega arith
+returns-2 : tie.Need-returns-2
+returns-2 c = c .zero-from2 .ensures ∙ sym (rest-from _ _ _ (c .before .before .if1 .left) (λ h. absurd (omega (arith, c .before .if2 .taken))))
 
-array-copy-out-x : tie.Need-array-copy-out-x Inv-loop μ-loop
-array-copy-out-x c = omega arith
+mul-own : tie.Need-mul-own
+mul-own c = search needs
 
-zero-or-pair-requires : tie.Need-zero-or-pair-requires Inv-loop μ-loop
-zero-or-pair-requires c κs = search needs
+array-copy-out-own : tie.Need-array-copy-out-own
+array-copy-out-own c = search needs
 
-returns : tie.Need-returns Inv-loop μ-loop
-unfolding restZero
-returns c =
-    let a = c .before .before .before .before .before .before .args in
-    let f : ℕ → Bool = λ k. isPair (a .n) (a .j .0 - 1) k || eqb (counters (a .t3) k) 0 in
-    sym (all-not 16 f (c .before .before .before .before .loop .p) (c .before .before .before .loop-test .taken) (sym (c .before .zero-or-pair .ensures) ∙ not-true (c .before .zero-or-pair .result) (c .if1 .taken)))
+returns-3 : tie.Need-returns-3
+returns-3 c = sym (rest-fails _ _ _ (c .before .before .before .before .if1 .left) (c .before .before .before .if2 .left) (c .if3 .taken))
 
-add-p : tie.Need-add-p Inv-loop μ-loop
-add-p c = omega arith
+zero-from-requires-3 : tie.Need-zero-from-requires-3
+zero-from-requires-3 c κs = search needs
 
-loop-less : tie.Need-loop-less Inv-loop μ-loop
-loop-less c = search needs
-
-loop-again : tie.Need-loop-again Inv-loop μ-loop
-loop-again c =
-    let a = c .before .before .before .before .before .before .args in
-    let f : ℕ → Bool = λ k. isPair (a .n) (a .j .0 - 1) k || eqb (counters (a .t3) k) 0 in
-    before-more f (c .before .before .before .before .loop .p) (c .before .before .before .before .loop .inv) (c .before .before .before .loop-test .taken) (sym (c .before .zero-or-pair .ensures) ∙ not-false (c .before .zero-or-pair .result) (c .if1 .left))
-
-returns-2 : tie.Need-returns-2 Inv-loop μ-loop
-unfolding restZero
-returns-2 c =
-    let a = c .before .before .before .args in
-    let f : ℕ → Bool = λ k. isPair (a .n) (a .j .0 - 1) k || eqb (counters (a .t3) k) 0 in
-    sym (before-all f (c .before .loop .p) (c .before .loop .inv) (c .loop-test .left))
+returns-4 : tie.Need-returns-4
+returns-4 c =
+    c .zero-from3 .ensures ∙ sym (rest-from _ _ _ (c .before .before .before .before .before .if1 .left) (λ h. c .before .if3 .left))
 
 pub rest-zero-spec : {M : Type 1} → statement M
 rest-zero-spec =
     tie.close
     (tie.spec
-    Inv-loop
-    μ-loop
     sub-down
-    loop-holds
-    mul-x
-    array-copy-out-x
-    zero-or-pair-requires
+    zero-from-requires
     returns
-    add-p
-    loop-less
-    loop-again
-    returns-2)
+    zero-from-requires-2
+    returns-2
+    mul-own
+    array-copy-out-own
+    returns-3
+    zero-from-requires-3
+    returns-4)

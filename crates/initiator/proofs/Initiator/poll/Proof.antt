@@ -4,9 +4,6 @@ use Rattle.initiator.specs.Step.{poll}
 use Rattle.initiator.proofs.Initiator.poll.Statement.{statement}
 use Rattle.initiator.proofs.Initiator.poll.Tie as tie
 
-polled-requires : tie.Need-polled-requires
-polled-requires c κs = search needs
-
 polls-requires : tie.Need-polls-requires
 polls-requires c κs = search needs
 
@@ -15,7 +12,7 @@ wait-requires c κs = search needs
 
 returns : tie.Need-returns
 unfolding poll
-returns c = rw (c .wait .ensures, c .before .polls .ensures, c .before .before .polled .ensures)
+returns c = rw (c .wait .ensures, c .before .polls .ensures, c .before .before .before .before .before .pre .1)
 
 pub poll-spec : {M : Type 1} → statement M
-poll-spec = tie.close (tie.spec polled-requires polls-requires wait-requires returns)
+poll-spec = tie.close (tie.spec polls-requires wait-requires returns)

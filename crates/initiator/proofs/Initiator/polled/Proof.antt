@@ -1,32 +1,34 @@
--- `polled` meets its contract. The invariant: the flags so far say whose column differs.
-use mathlib.Core.Path.{refl}
-use mathlib.Core.Bool.{Bool, not, _&&_}
-use Prim.Native.Nat.{ℕ, _-_}
+-- `polled` meets its contract. The invariant: the flags so far are of participants whose column differs.
+use mathlib.Core.Path.{refl, _∙_}
+use mathlib.Core.Logic.{⊎-elim}
+use Prim.Native.Nat.{_-_}
 use native.Mathlib.Omega.{arith}
 use borrow.Author.Needs.{needs}
-use Rattle.matrix.specs.Matrix.{column}
-use Rattle.matrix.specs.Entries.{same}
-use Rattle.machine.specs.Named.{isParticipant}
 use Rattle.machine.proofs.Flags.{Flagged, flagged-none, flagged-more, flagged-all}
-use Rattle.initiator.specs.declared.Initiator.{Initiator}
-use Rattle.initiator.specs.Step.{polled}
+use Rattle.initiator.proofs.Polling.{asked, both-asked, first-fails, asked-all}
 use Rattle.initiator.proofs.Initiator.polled.Statement.{statement}
 use Rattle.initiator.proofs.Initiator.polled.Tie as tie
 
-abbrev differs : Initiator → ℕ → Bool
-differs self p = isParticipant (self .n) (self .me .0 - 1) p && not (same (column (self .matrix) p) (column (self .copy) p))
-
 abbrev Inv-loop : tie.InvT-loop
-Inv-loop self flags₀ p₀ flags p = Flagged (differs self) flags p
+Inv-loop n own differ flags₀ p₀ flags p = Flagged (asked n own differ) flags p
 
 abbrev μ-loop : tie.MeasureT-loop
-μ-loop self flags₀ p₀ flags p = 16 - p
+μ-loop n own differ flags₀ p₀ flags p = 16 - p
+
+sub-own : tie.Need-sub-own Inv-loop μ-loop
+sub-own c = search needs
+
+columns-differ-requires : tie.Need-columns-differ-requires Inv-loop μ-loop
+columns-differ-requires c κs = search needs
 
 loop-holds : tie.Need-loop-holds Inv-loop μ-loop
-loop-holds c = flagged-none (differs (c .args .self)) _ refl
+loop-holds c = flagged-none _ _ refl
 
-is-polled-requires : tie.Need-is-polled-requires Inv-loop μ-loop
-is-polled-requires c κs = (omega arith, omega arith)
+is-participant-requires : tie.Need-is-participant-requires Inv-loop μ-loop
+is-participant-requires c κs = search needs
+
+array-read-flags : tie.Need-array-read-flags Inv-loop μ-loop
+array-read-flags c = omega arith
 
 array-write-flags : tie.Need-array-write-flags Inv-loop μ-loop
 array-write-flags c = omega arith
@@ -39,13 +41,15 @@ loop-less c = search needs
 
 loop-again : tie.Need-loop-again Inv-loop μ-loop
 loop-again c =
-    let self = c .before .before .before .args .self in
-    let at-loop = c .before .before .loop in
-    flagged-more (differs self) (at-loop .flags) (at-loop .p) (c .is-polled .result) (at-loop .inv) (c .before .loop-test .taken) (c .is-polled .ensures)
+    let called = c .before .is-participant in
+    flagged-more _ _ _ _ (c .before .before .before .loop .inv) (c .before .before .loop-test .taken)
+    (⊎-elim (λ t. both-asked _ _ _ _ (called .ensures) (t .0 .taken) (t .1)) (λ t. first-fails _ _ _ _ (called .ensures) (t .0 .left) (t .1)) (c .if1 .came))
 
 returns : tie.Need-returns Inv-loop μ-loop
-unfolding polled
-returns c = flagged-all (differs (c .before .before .args .self)) (c .before .loop .flags) (c .before .loop .p) (c .before .loop .inv) (c .loop-test .left)
+returns c =
+    let told = c .before .before .columns-differ in
+    flagged-all _ (c .before .loop .flags) (c .before .loop .p) (c .before .loop .inv) (c .loop-test .left)
+    ∙ asked-all (c .before .before .before .before .before .before .args .self) (told .result) (told .ensures)
 
 pub polled-spec : {M : Type 1} → statement M
 polled-spec =
@@ -53,8 +57,11 @@ polled-spec =
     (tie.spec
     Inv-loop
     μ-loop
+    sub-own
+    columns-differ-requires
     loop-holds
-    is-polled-requires
+    is-participant-requires
+    array-read-flags
     array-write-flags
     add-p
     loop-less
