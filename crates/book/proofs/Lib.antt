@@ -1,4 +1,5 @@
 pub mod Asked
+pub mod Before
 pub mod Counters
 pub mod Counts
 pub mod Fits
@@ -8,3 +9,4 @@ pub mod Starts
 pub mod Stores
 pub mod Sums
 pub mod Tests
+pub mod Loops

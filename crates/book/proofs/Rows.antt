@@ -2,14 +2,14 @@
 -- questions of counters that stand in two parts.
 use mathlib.Core.Path.{_≡_, refl, sym, ap, _∙_}
 use mathlib.Core.Bool.{Bool}
-use mathlib.Core.List.{List, [], _∷_, _++_}
+use mathlib.Core.List.{List, [], _∷_, _++_, append-assoc}
 use Prim.Native.Nat.{ℕ, zero, suc, _+_, _-_, _*_, _≤_, _<_}
 use native.Mathlib.Nat.{zero-add, suc-add}
 use native.Mathlib.Decide.{decLt}
 use native.Mathlib.Omega.{arith}
 use borrow.Author.Tests.{lt-ltb, le-ltb}
-use lib.ListN.{length, take, drop, getD, length-append, length-take, length-drop, length-replicate, List·getD-append}
-use lib.Seq.{length-take-le, getD-append-add, getD-drop, getD-take, drop-drop, take-nil}
+use lib.ListN.{length, take, drop, getD, replicate, length-append, length-take, length-drop, length-replicate, take-append-drop, List·getD-append}
+use lib.Seq.{length-take-le, take-at, getD-append-add, getD-drop, getD-take, drop-drop, take-nil}
 use Rattle.book.specs.Layout.{checkpointsIn}
 use Rattle.book.specs.Tables.{tableRow, others, column, checkpointsOf}
 use Rattle.book.specs.InTurn.{_then_}
@@ -42,6 +42,29 @@ length-row j cs h =
 pub length-others : (n j : ℕ) (row : List ℕ) → j < n → n ≤ length row → length (others n j row) ≡ n - 1
 unfolding others
 length-others n j row h k = simp (length-append, length-drop, length-take) (omega arith)
+
+drop-past : (p q : List ℕ) (x n : ℕ) → length p ≡ n → drop (suc n) (p ++ x ∷ q) ≡ q
+drop-past [] q x zero h = refl
+drop-past [] q x (suc n) h = absurd (omega arith)
+drop-past (y ∷ p) q x zero h = absurd (omega arith)
+drop-past (y ∷ p) q x (suc n) h = drop-past p q x n (omega arith)
+
+-- the counters of a row that begins the list, read back
+pub others-row : (n j : ℕ) (cs rest : List ℕ) → j < n → n ≤ 16 → length cs ≡ n - 1 → others n j (tableRow j cs ++ rest) ≡ cs
+unfolding others tableRow
+others-row n j cs rest h k long =
+    let a : List ℕ = take j cs ++ 0 ∷ drop j cs in
+    let pad : List ℕ = replicate (16 - length a) 0 in
+    let la : length a ≡ n = length-spread j cs ∙ omega arith in
+    let lj : length (take j cs) ≡ j = length-take-le j cs (omega arith) in
+    rw (
+      append-assoc a pad rest,
+      take-at a (pad ++ rest) n la,
+      append-assoc (take j cs) (0 ∷ drop j cs) (pad ++ rest),
+      take-at (take j cs) (0 ∷ drop j cs ++ (pad ++ rest)) j lj,
+      drop-past (take j cs) (drop j cs) 0 j lj,
+      take-append-drop j cs,
+    )
 
 -- the k-th of the others stands in its column
 pub getD-others : (n j k : ℕ) (row : List ℕ) → j < n → n ≤ length row → k < n - 1 → getD (others n j row) k 0 ≡ getD row (column j k) 0

@@ -9,3 +9,4 @@ pub mod Check
 pub mod Read
 pub mod Write
 pub mod Fits
+pub mod Before

@@ -1,11 +1,13 @@
 // Checkpoint books and their tables (document 01, "The book"): the values that every layer shares, and what the reader,
 // the check of tables and the writer have in common. The definitions that their contracts cite are this crate's specs.
 ghost use mathlib.Core.Path.{_≡_};
+ghost use mathlib.Core.Bool.{false};
 ghost use Prim.Native.Nat.{_+_, _-_, _*_, _≤_, _<_};
 ghost use lib.ListN.{length, replicate};
 ghost use lib.Seq.{sets};
 ghost use Rattle.book.specs.Tables.{column};
 ghost use Rattle.book.specs.View.{sum, firstRows, counterFrom};
+ghost use Rattle.book.specs.Before.{entryBefore};
 ghost use Rattle.book.specs.Questions.{zeroIfOldest, counterQuestion};
 
 // The bounds of document 01.
@@ -47,14 +49,6 @@ pub struct Shape {
 pub struct TableRows {
     pub shape: Shape,
     pub first: [usize; 16],
-}
-
-// How large a book's numbers may be, in groups and in value, and its mark: arguments of a reader, since editions of the
-// format differ in them.
-pub struct Bounds {
-    pub groups: u32,
-    pub limit: u64,
-    pub mark: u64,
 }
 
 // The answer of a call whose result stands beside it or in lent tables: the number is that of the first question of
@@ -99,6 +93,19 @@ pub fn counter_question(mark: u64, oldest: bool, before: u64, v: u64) -> u32
         return 8;
     }
     0
+}
+
+// The same counter one checkpoint before; before the oldest there is nothing to be lower than.
+pub fn entry_before(table: &[Counter], at: usize, oldest: bool) -> u64
+    requires { ⌜ (at < length (now table)) × (oldest ≡ false → 16 ≤ at) ⌝ }
+    ensures { λ r. ⌜ r ≡ entryBefore oldest at (now (table .entry)) ⌝ }
+{
+    if oldest {
+        0
+    } else {
+        let row_before = at - ROW_WIDTH;
+        wide(table[row_before])
+    }
 }
 
 // The column of the k-th of the other processes, in rising order, in a row of process j; both count from 0.

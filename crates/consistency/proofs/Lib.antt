@@ -1,5 +1,6 @@
 pub mod Fills
 pub mod Permits
+pub mod Near
 pub mod There
 pub mod Pairs
 pub mod Calls

@@ -10,7 +10,7 @@ use Rattle.line_theory.proofs.Tests.{permitted-in, permitted-out, refused-by}
 use Rattle.consistency.specs.declared.Permission.{Permission}
 use Rattle.consistency.specs.declared.Permission.the-variants.{Permitted, Offends}
 use Rattle.consistency.specs.Known.{isPermitted, Offender, CheckpointTested}
-use Rattle.consistency.proofs.Fills.{below-more}
+use Rattle.book.proofs.Loops.{below-more}
 
 -- a number from 1 on is one more than the same from 0 on
 pub from-one : (p : ℕ) → p + 1 - 1 ≡ p

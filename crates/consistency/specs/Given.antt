@@ -1,16 +1,16 @@
--- What the functions below the calls are given, and what they promise one another: those for other crates
--- (`test_checkpoint`, `newest_permitted`, `test_in_set`), and the private ones.
+-- What the functions below the calls are given, and what they promise one another: the one for other crates
+-- (`newest_near`), and the private ones.
 use mathlib.Core.Path.{_≡_}
 use mathlib.Core.Bool.{true}
 use mathlib.Core.List.{List}
-use Prim.Native.Nat.{ℕ, _-_, _≤_, _<_}
+use Prim.Native.Nat.{ℕ, suc, _-_, _≤_, _<_}
 use lib.ListN.{length}
 use Rattle.book.specs.declared.Shape.{Shape}
 use Rattle.book.specs.declared.TableRows.{TableRows}
 use Rattle.book.specs.declared.Checkpoint.{Checkpoint}
 use Rattle.book.specs.declared.Count.{Count}
 use Rattle.book.specs.Bounds.{mark, mostProcesses, entries}
-use Rattle.book.specs.View.{count, S}
+use Rattle.book.specs.View.{count, S, R}
 use Rattle.book.specs.Fits.{Placed}
 use Rattle.line_theory.specs.Sets.{View, IsBook, IsSet, consistent}
 use Rattle.line_theory.specs.Search.{sentTo}
@@ -30,6 +30,11 @@ pub record Whole (rows : TableRows) (table : List ℕ) : Type 0 where
 -- a process of the book, numbered from 1
 abbrev pub IsProcess : TableRows → ℕ → Type 0
 IsProcess rows j = (1 ≤ j) × (j ≤ rows .shape .n)
+
+-- the received counters of process j, numbered from 1, rise from each checkpoint to the next (question 8)
+abbrev pub Rises : Shape → List ℕ → ℕ → Type 0
+Rises shape received j =
+    (r p : ℕ) → p < shape .n → 1 ≤ r → r < count shape (j - 1) → R shape received (j - 1) r p ≤ R shape received (j - 1) (suc r) p
 
 -- whole tables that hold a book, and a set of it
 pub record SetGiven (rows : TableRows) (sent received : List ℕ) (set : List Checkpoint) : Type 0 where

@@ -13,7 +13,7 @@ ghost use Rattle.line_theory.specs.Search.{newest};
 ghost use Rattle.line_theory.specs.OfTables.{viewOf};
 ghost use Rattle.consistency.specs.Set.{chosen, isThere, allThere, Tested};
 ghost use Rattle.consistency.specs.Known.{counters, isPermitted, CheckpointTested};
-ghost use Rattle.consistency.specs.Given.{Whole, IsProcess, SetGiven, AllNamed, AreSentTo, InSet, Paired};
+ghost use Rattle.consistency.specs.Given.{Whole, IsProcess, Rises, SetGiven, AllNamed, AreSentTo, InSet, Paired};
 
 // One checkpoint against known sent counters: none of its received counters is higher, or that of this partner is.
 pub enum Permission {
@@ -29,8 +29,7 @@ pub enum SetAnswer {
 }
 
 // Are the received counters of process j's checkpoint r at most the known sent counters? The mark is above every counter.
-// Inner: asks for the rows of a whole table and a checkpoint that exists.
-pub fn test_checkpoint(
+fn test_checkpoint(
     rows: TableRows,
     received: &[Counter],
     j: Process,
@@ -59,8 +58,8 @@ pub fn test_checkpoint(
 }
 
 // The newest checkpoint of process j, from one back, that the known sent counters permit; 0 for none, but in a book there
-// is one. Inner, like the one above.
-pub fn newest_permitted(
+// is one.
+fn newest_permitted(
     rows: TableRows,
     received: &[Counter],
     j: Process,
@@ -81,8 +80,72 @@ pub fn newest_permitted(
     Checkpoint(0)
 }
 
+// A checkpoint, or the process's newest if it is beyond that.
+fn within(shape: Shape, j: Process, r: Checkpoint) -> Checkpoint
+    requires { ⌜ (1 ≤ j .0) × (j .0 ≤ 16) ⌝ }
+    ensures { λ a. ⌜ a .0 ≤ count shape (j .0 - 1) ⌝ }
+{
+    let counts = shape.counts;
+    let place = j.0 - 1;
+    let newest = counts[place];
+    if newest < r.0 {
+        return Checkpoint(newest);
+    }
+    r
+}
+
+// Up from a checkpoint that is the newest permitted from itself back, while the next is permitted too.
+fn upwards(
+    rows: TableRows,
+    received: &[Counter],
+    j: Process,
+    from: Checkpoint,
+    known: [Count; 16],
+) -> Checkpoint
+    requires { ⌜ Whole rows (now received) × IsProcess rows (j .0) ⌝ }
+    requires { ⌜ Rises (rows .shape) (now received) (j .0) ⌝ }
+    requires { ⌜ from .0 ≤ count (rows .shape) (j .0 - 1) ⌝ }
+    requires { ⌜ newest (rows .shape .n) (λ r p. R (rows .shape) (now received) (j .0 - 1) r p) (counters known) (from .0) ≡ from .0 ⌝ }
+    ensures { λ found. ⌜ found .0 ≡ newest (rows .shape .n) (λ r p. R (rows .shape) (now (received .entry)) (j .0 - 1) r p) (counters known) (count (rows .shape) (j .0 - 1)) ⌝ }
+{
+    let shape = rows.shape;
+    let counts = shape.counts;
+    let place = j.0 - 1;
+    let count = counts[place];
+    let mut last = from.0;
+    while last < count {
+        if !is_permitted(test_checkpoint(rows, received, j, Checkpoint(last + 1), known)) {
+            return Checkpoint(last);
+        }
+        last += 1;
+    }
+    Checkpoint(last)
+}
+
+// The newest checkpoint of process j that the known sent counters permit, looked for from a number that is thought near: as
+// received counters rise, all that is older than a permitted checkpoint is permitted. Inner: asks for the rows of a whole table.
+pub fn newest_near(
+    rows: TableRows,
+    received: &[Counter],
+    j: Process,
+    near: Checkpoint,
+    known: [Count; 16],
+) -> Checkpoint
+    requires { ⌜ Whole rows (now received) × IsProcess rows (j .0) ⌝ }
+    requires { ⌜ Rises (rows .shape) (now received) (j .0) ⌝ }
+    ensures { λ found. ⌜ found .0 ≡ newest (rows .shape .n) (λ r p. R (rows .shape) (now (received .entry)) (j .0 - 1) r p) (counters known) (count (rows .shape) (j .0 - 1)) ⌝ }
+{
+    let shape = rows.shape;
+    let from = within(shape, j, near);
+    let down = newest_permitted(rows, received, j, from, known);
+    if down.0 != from.0 {
+        return down;
+    }
+    upwards(rows, received, j, from, known)
+}
+
 // The answer as a truth value.
-pub fn is_permitted(permission: Permission) -> bool
+fn is_permitted(permission: Permission) -> bool
     ensures { λ r. ⌜ r ≡ isPermitted permission ⌝ }
 {
     match permission {
@@ -110,9 +173,8 @@ fn sent_to(rows: TableRows, sent: &[Counter], set: [Checkpoint; 16], j: Process)
     known
 }
 
-// Process j's checkpoint in a set against what the others' have sent to it. Inner: asks for the rows of accepted tables and
-// a set of theirs.
-pub fn test_in_set(
+// Process j's checkpoint in a set against what the others' have sent to it.
+fn test_in_set(
     rows: TableRows,
     sent: &[Counter],
     received: &[Counter],

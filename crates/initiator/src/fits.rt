@@ -1,6 +1,5 @@
 // Document 01, question 13: does an initiator's state fit the tables?
 use crate::Initiator;
-use book::Checkpoint;
 use book::Count;
 use book::Counter;
 use book::TableRows;
@@ -34,22 +33,13 @@ impl Initiator {
         let candidate = self.candidate;
         let matrix = self.matrix;
         let kept = self.kept_matrix();
-        let shape = rows.shape;
-        let counts = shape.counts;
-        let place = me.0 - 1;
         let row = matrix::row(matrix, me);
         let own = machine::sent_row(rows, sent, me, candidate);
         if !matrix::same(row, own) {
             return false;
         }
         let column = matrix::column(kept, me);
-        let newest = consistency::newest_permitted(
-            rows,
-            received,
-            me,
-            Checkpoint(counts[place]),
-            column,
-        );
+        let newest = consistency::newest_near(rows, received, me, candidate, column);
         candidate.0 == newest.0
     }
 

@@ -1,7 +1,6 @@
 // Document 01, "A search", and K 5.2, steps 4 to 9: the initiator takes a report in.
 use crate::Initiator;
 use crate::InitiatorStep;
-use book::Checkpoint;
 use book::Count;
 use book::Counter;
 use book::TableRows;
@@ -94,20 +93,12 @@ impl Initiator {
         ensures { λ r. ⌜ r ≡ stepBack (ownOf (rows .shape) (now (sent .entry)) (now (received .entry)) (self .me .0 - 1)) self ⌝ }
     {
         let me = self.me;
+        let near = self.candidate;
         let held = self.matrix;
         let awaited = self.awaited;
         let copy = self.copy;
-        let shape = rows.shape;
-        let counts = shape.counts;
-        let place = me.0 - 1;
         let known = matrix::column(held, me);
-        let candidate = consistency::newest_permitted(
-            rows,
-            received,
-            me,
-            Checkpoint(counts[place]),
-            known,
-        );
+        let candidate = consistency::newest_near(rows, received, me, near, known);
         let row = machine::sent_row(rows, sent, me, candidate);
         let matrix = matrix::with_row(held, me, row);
         Initiator {

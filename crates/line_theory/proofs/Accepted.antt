@@ -164,6 +164,17 @@ module _ (shape : Shape) (sent received : List ℕ) (sixteen : length (shape .co
     pub received-of : (k : ℕ) → k < shape .n - 1 → R shape received j (suc r) (column j k) ≡ counter book j r (shape .n - 1 + k)
     received-of k i = view-received shape sent received sixteen checked j h r k m i
 
+  -- received counters rise too, of which the theory of the line says nothing
+  pub received-rises : (j r p : ℕ) → j < shape .n → p < shape .n → 1 ≤ r → r < count shape j
+      → R shape received j r p ≤ R shape received j (suc r) p
+  received-rises j zero p h o a m = absurd (omega arith)
+  received-rises j (suc r) p h o a m =
+      let m′ : r < count shape j = omega arith in
+      by-column (λ q. R shape received j (suc r) q ≤ R shape received j (suc (suc r)) q) (shape .n) j h (rw (received-own j r h m′) (omega arith))
+      (λ k i.
+      rw (received-of j r h m′ k i, received-of j (suc r) h m k i)
+      (well .rising j r (shape .n - 1 + k) h (inside j (suc r) h m) (omega arith))) p o
+
   accepted-book : IsBook mark (viewOf shape sent received)
   accepted-book = record { some = some; rising = rising; below = below; received = at-most; oldest = oldest; own = own }
     where

@@ -15,9 +15,10 @@ use Rattle.book.proofs.Starts.{placed-of}
 use Rattle.line_theory.specs.Sets.{IsBook}
 use Rattle.line_theory.specs.Search.{newest}
 use Rattle.line_theory.specs.OfTables.{viewOf}
-use Rattle.line_theory.proofs.Accepted.{accepted-size, accepted-lengths, accepted-few, accepted-is-book}
+use Rattle.line_theory.proofs.Accepted.{accepted-size, accepted-lengths, accepted-few, received-rises, accepted-is-book}
 use Rattle.line_theory.proofs.Theorems.{newest-is-newest}
 use Rattle.consistency.specs.Known.{counters}
+use Rattle.consistency.specs.Given.{Rises}
 use Rattle.machine.specs.Given.{Given}
 
 -- the rows that a call finds are those of accepted tables
@@ -32,6 +33,7 @@ given-of shape sent received rows me sixteen none e f named =
       in-received = record { placed = placed; most = most; long = accepted-lengths shape sent received none .1 };
       book = subst (λ (t : Shape). IsBook mark (viewOf t sent received)) (sym e) (accepted-is-book shape sent received sixteen none);
       present = subst (λ (t : Shape). (1 ≤ me) × (me ≤ t .n)) (sym e) named;
+      rises = subst (λ (t : Shape). Rises t received me) (sym e) (λ r p. received-rises shape sent received sixteen none (me - 1) r p (omega (arith, named)));
     }
 
 -- the newest permitted checkpoint of a process exists

@@ -5,7 +5,7 @@ use Prim.Native.Nat.{ℕ, _+_, _≤_, _<_}
 use native.Mathlib.Omega.{arith}
 use Rattle.line_theory.specs.Over.{allTo}
 use Rattle.line_theory.proofs.Over.{all-out}
-use Rattle.consistency.proofs.Fills.{below-more}
+use Rattle.book.proofs.Loops.{below-more}
 
 pub record Before (f : ℕ → Bool) (k : ℕ) : Type 0 where
   pub within : k ≤ 16

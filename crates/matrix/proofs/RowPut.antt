@@ -10,7 +10,7 @@ use lib.Seq.{getD-set-same, getD-set-other}
 use lib.Dec.{eqb}
 use Rattle.book.specs.declared.Count.{Count}
 use Rattle.consistency.specs.Known.{counters}
-use Rattle.consistency.proofs.Fills.{below-more}
+use Rattle.book.proofs.Loops.{below-more}
 use Rattle.matrix.specs.Matrix.{pick, entry, withRow}
 use Rattle.matrix.proofs.Rows.{matrix-is}
 

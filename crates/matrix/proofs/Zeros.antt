@@ -10,7 +10,7 @@ use lib.Dec.{ltb, eqb}
 use Rattle.book.specs.declared.Count.{Count}
 use Rattle.line_theory.proofs.Over.{all-out, all-not}
 use Rattle.consistency.specs.Known.{counters}
-use Rattle.consistency.proofs.Fills.{below-more}
+use Rattle.book.proofs.Loops.{below-more}
 use Rattle.matrix.specs.Matrix.{isPair}
 use Rattle.matrix.specs.Entries.{zeroFrom, restZero}
 use Rattle.matrix.proofs.Sweep.{all-same}

@@ -23,20 +23,11 @@ impl Participant {
         let candidate = self.candidate;
         let row = self.row;
         let column = self.column;
-        let shape = rows.shape;
-        let counts = shape.counts;
-        let place = me.0 - 1;
         let own = machine::sent_row(rows, sent, me, candidate);
         if !matrix::same(row, own) {
             return false;
         }
-        let newest = consistency::newest_permitted(
-            rows,
-            received,
-            me,
-            Checkpoint(counts[place]),
-            column,
-        );
+        let newest = consistency::newest_near(rows, received, me, candidate, column);
         candidate.0 == newest.0
     }
 

@@ -96,19 +96,11 @@ impl Participant {
     {
         let me = self.me;
         let initiator = self.initiator;
+        let near = self.candidate;
         let held = self.column;
         let news = message.news;
-        let shape = rows.shape;
-        let counts = shape.counts;
-        let place = me.0 - 1;
         let column = matrix::patch(held, news);
-        let candidate = consistency::newest_permitted(
-            rows,
-            received,
-            me,
-            Checkpoint(counts[place]),
-            column,
-        );
+        let candidate = consistency::newest_near(rows, received, me, near, column);
         let row = machine::sent_row(rows, sent, me, candidate);
         Participant {
             n: self.n,

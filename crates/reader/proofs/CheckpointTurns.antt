@@ -1,105 +1,242 @@
 -- The turns of the loop over one process's checkpoints.
-use mathlib.Core.Path.{_≡_, refl, sym, ap, _∙_}
-use mathlib.Core.Bool.{Bool, true, false}
-use mathlib.Core.List.{List, _∷_, _++_}
-use Prim.Native.Nat.{ℕ, zero, suc, _+_, _*_, _-_, _≤_, _<_}
+use mathlib.Core.Path.{_≡_, refl, sym, ap, ap₂, _∙_}
+use mathlib.Core.Bool.{Bool, false}
+use mathlib.Core.List.{List, [], _∷_, _++_}
+use Prim.Native.Nat.{ℕ, suc, _+_, _*_, _-_, _≤_, _<_}
 use native.Mathlib.Nat.{zero-mul, suc-mul}
 use native.Mathlib.Numerals.{add-one}
 use native.Mathlib.Omega.{arith}
-use lib.ListN.{length, take, drop, replicate, length-append, length-drop}
-use lib.Seq.{take-at, drop-drop, length-take-le}
-use lib.Dec.{eqb}
 use borrow.Author.Tests.{ne-eqb}
+use lib.ListN.{length, take, drop, length-append, replicate-append-replicate}
+use lib.Seq.{length-take-le, take-take, take-add, drop-drop}
+use lib.Dec.{eqb}
 use Rattle.varint.specs.Sequence.{Numbers, after}
+use Rattle.book.specs.Bounds.{mark}
 use Rattle.book.specs.InTurn.{_then_}
-use Rattle.book.specs.Along.{countersQuestion, checkpointsQuestion}
-use Rattle.book.proofs.Questions.{then-passed, then-refused}
-use Rattle.book.specs.declared.Bounds.{Bounds}
+use Rattle.book.specs.Layout.{width}
+use Rattle.book.specs.Questions.{counterQuestion}
+use Rattle.book.specs.Along.{countersQuestion, checkpointsQuestion, processQuestion}
+use Rattle.book.proofs.Asked.{counters-long}
+use Rattle.book.proofs.Questions.{then-passed, then-refused, then-assoc}
+use Rattle.book.proofs.Rows.{drop-take}
 use Rattle.reader.specs.declared.Step.{Step}
-use Rattle.reader.specs.Parts.{numbersFrom, CountersChecked, CheckpointsChecked}
+use Rattle.book.specs.Before.{countersBefore}
+use Rattle.reader.specs.Parts.{numbersFrom, RowClear, RowsClear, RowTaken, CheckpointsTaken}
+use Rattle.reader.proofs.CounterTurns.{length-before}
+use Rattle.reader.proofs.RowTurns.{others-put}
+use Rattle.reader.proofs.ProcessRows.{Rows, rows-begun, rows-length, rows-fit, rows-more, rows-ended}
 
 -- the numbers after k, and of those the ones after m
-pub after-after : (k m : ℕ) (ns : Numbers) → after m (after k ns) ≡ after (k + m) ns
+after-after : (k m : ℕ) (ns : Numbers) → after m (after k ns) ≡ after (k + m) ns
 after-after k m ns = λ i. record { found = drop-drop m k (ns .found) i; stop = ns .stop }
 
-take-replicate : (w n : ℕ) → w ≤ n → take {A = ℕ} w (replicate n 0) ≡ replicate w 0
-take-replicate zero n h = refl
-take-replicate (suc w) zero h = absurd (omega arith)
-take-replicate (suc w) (suc n) h = ap (λ (l : List ℕ). 0 ∷ l) (take-replicate w n (omega arith))
+-- the questions of a checkpoint's counters are those of its sent ones, then those of its received ones
+counters-split : (oldest : Bool) (b₁ b₂ vs : List ℕ)
+    → countersQuestion mark oldest (b₁ ++ b₂) vs
+    ≡ (countersQuestion mark oldest b₁ vs then λ _. countersQuestion mark oldest b₂ (drop (length b₁) vs))
+unfolding countersQuestion
+counters-split oldest [] b₂ vs = refl
+counters-split oldest (b ∷ b₁) b₂ [] = refl
+counters-split oldest (b ∷ b₁) b₂ (v ∷ vs) =
+    ap (λ (q : ℕ). counterQuestion mark oldest b v then λ _. q) (counters-split oldest b₁ b₂ vs)
+    ∙ sym (then-assoc (counterQuestion mark oldest b v) (λ _. countersQuestion mark oldest b₁ vs)
+    (λ _. countersQuestion mark oldest b₂ (drop (length b₁) vs)))
 
-checkpoints-more : (mark : ℕ) (oldest : Bool) (before : List ℕ) (left : ℕ) (vs : List ℕ)
+checkpoints-more : (oldest : Bool) (before : List ℕ) (left : ℕ) (vs : List ℕ)
     → checkpointsQuestion mark oldest before (suc left) vs
     ≡ (countersQuestion mark oldest before vs then λ _. checkpointsQuestion mark false (take (length before) vs) left (drop (length before) vs))
 unfolding checkpointsQuestion
-checkpoints-more mark oldest before left vs = refl
+checkpoints-more oldest before left vs = refl
 
-checkpoints-none : (mark : ℕ) (oldest : Bool) (before vs : List ℕ) → checkpointsQuestion mark oldest before 0 vs ≡ 0
+checkpoints-none : (oldest : Bool) (before vs : List ℕ) → checkpointsQuestion mark oldest before 0 vs ≡ 0
 unfolding checkpointsQuestion
-checkpoints-none mark oldest before vs = refl
+checkpoints-none oldest before vs = refl
 
--- r checkpoints are passed: the row has the last one's counters
-pub record Passed (b : Bounds) (w count : ℕ) (s : List ℕ) (at next r : ℕ) (row : List ℕ) : Type 0 where
+checkpoints-both : (oldest : Bool) (b₁ b₂ vs : List ℕ) (left m : ℕ) → length b₁ ≡ m → length b₂ ≡ m
+    → checkpointsQuestion mark oldest (b₁ ++ b₂) (suc left) vs
+    ≡ (countersQuestion mark oldest b₁ vs
+    then λ _. countersQuestion mark oldest b₂ (drop m vs)
+    then λ _. checkpointsQuestion mark false (take (2 * m) vs) left (drop (2 * m) vs))
+checkpoints-both oldest b₁ b₂ vs left m e₁ e₂ =
+    let long : length (b₁ ++ b₂) ≡ 2 * m = simp length-append (omega arith) in
+    let later : Unit {0} → ℕ = λ _. checkpointsQuestion mark false (take (2 * m) vs) left (drop (2 * m) vs) in
+    checkpoints-more oldest (b₁ ++ b₂) left vs
+    ∙ ap
+    (λ (k : ℕ). countersQuestion mark oldest (b₁ ++ b₂) vs then λ _. checkpointsQuestion mark false (take k vs) left (drop k vs)) long
+    ∙ ap (λ (q : ℕ). q then later) (counters-split oldest b₁ b₂ vs
+    ∙ ap (λ (k : ℕ). countersQuestion mark oldest b₁ vs then λ _. countersQuestion mark oldest b₂ (drop k vs)) e₁)
+    ∙ then-assoc (countersQuestion mark oldest b₁ vs) (λ _. countersQuestion mark oldest b₂ (drop m vs)) later
+
+-- the numbers from a place on, and the questions of the checkpoints after the one that stands there
+abbrev listFrom : List ℕ → ℕ → List ℕ
+listFrom s at = numbersFrom s at .found
+
+abbrev questionAfter : ℕ → ℕ → List ℕ → ℕ
+questionAfter n left vs = checkpointsQuestion mark false (take (width n) vs) left (drop (width n) vs)
+
+-- the counters before checkpoint r, in one table and in both
+abbrev rowBefore : ℕ → ℕ → ℕ → ℕ → List ℕ → List ℕ
+rowBefore n j first r table = countersBefore (eqb r 0) n j ((first + r) * 16) table
+
+abbrev bothBefore : ℕ → ℕ → ℕ → ℕ → List ℕ → List ℕ → List ℕ
+bothBefore n j first r sent received = rowBefore n j first r sent ++ rowBefore n j first r received
+
+-- a row was taken: it has all its counters, and it is the row before the next
+module _ (oldest : Bool) (n j row : ℕ) (table table′ s : List ℕ) (at : ℕ) (step : Step) (fits : RowClear oldest n j (row * 16) table)
+    (did : RowTaken oldest n j (row * 16) s at step table table′) (z : step .question ≡ 0) where
+  row-long : length (take (n - 1) (listFrom s at)) ≡ n - 1
+  row-long =
+      length-take-le (n - 1) (listFrom s at)
+      (rw (length-before oldest n j (row * 16) table fits) at (counters-long mark oldest (countersBefore oldest n j (row * 16) table) (listFrom s at) (sym (did .asked) ∙ z)))
+
+  row-short : length (take (n - 1) (listFrom s at)) < 16
+  row-short = omega (arith, row-long, fits .present, fits .most)
+
+  row-next : countersBefore false n j ((row + 1) * 16) table′ ≡ take (n - 1) (listFrom s at)
+  unfolding countersBefore
+  row-next =
+      let here : (row + 1) * 16 - 16 ≡ row * 16 = omega arith in
+      rw (here, did .read z)
+      (others-put n j (row * 16) (take (n - 1) (listFrom s at)) table (fits .present) (fits .most) row-long (omega (arith, fits .inside, fits .whole)))
+
+-- r checkpoints are taken: their rows stand in both tables, and what is left to ask is asked of the numbers that follow
+pub record Passed (n j first count : ℕ) (s : List ℕ) (at : ℕ) (sent₀ received₀ sent received : List ℕ) (next r : ℕ) : Type 0 where
   pub within : r ≤ count
-  pub long : length row ≡ 30
-  pub asked : checkpointsQuestion (b .mark) true (replicate w 0) count (numbersFrom b s at .found)
-      ≡ checkpointsQuestion (b .mark) (eqb r 0) (take w row) (count - r) (numbersFrom b s next .found)
-  pub rest : numbersFrom b s next ≡ after (r * w) (numbersFrom b s at)
+  pub sentRows : Rows (take (n - 1)) n j first count r (listFrom s at) (listFrom s next) sent₀ sent
+  pub receivedRows : Rows (drop (n - 1)) n j first count r (listFrom s at) (listFrom s next) received₀ received
+  pub rest : numbersFrom s next ≡ after (r * width n) (numbersFrom s at)
+  pub asked : processQuestion mark n count (listFrom s at)
+      ≡ checkpointsQuestion mark (eqb r 0) (bothBefore n j first r sent received) (count - r) (listFrom s next)
 
-pub passed-begun : (b : Bounds) (w count : ℕ) (s : List ℕ) (at : ℕ) → w ≤ 30 → Passed b w count s at at 0 (replicate 30 0)
-passed-begun b w count s at h =
-    let none : count - 0 ≡ count = omega arith in
+pub passed-begun : (n j first count : ℕ) (s : List ℕ) (at : ℕ) (sent received : List ℕ)
+    → Passed n j first count s at sent received sent received at 0
+unfolding countersBefore
+passed-begun n j first count s at sent received =
+    let two : (n - 1) + (n - 1) ≡ 2 * (n - 1) = omega arith in
+    let all : count - 0 ≡ count = omega arith in
     record {
       within = omega arith;
-      long = refl;
-      asked = rw (take-replicate w 30 h, none);
-      rest = rw (zero-mul w);
+      sentRows = rows-begun (take (n - 1)) n j first count (listFrom s at) sent;
+      receivedRows = rows-begun (drop (n - 1)) n j first count (listFrom s at) received;
+      rest = rw (zero-mul (width n));
+      asked = rw (replicate-append-replicate, two, all);
     }
 
-module _ (b : Bounds) (w count : ℕ) (s : List ℕ) (at next r : ℕ) (row : List ℕ) (inv : Passed b w count s at next r row) (small : w ≤ 30)
-    (h : r < count) (step : Step) (read : List ℕ)
-    (did : CountersChecked b (eqb r 0) (take w row) s next step read) where
-  width : length (take w row) ≡ w
-  width = length-take-le w row (omega (arith, inv .long))
+module _ (n j first count : ℕ) (s : List ℕ) (at : ℕ) (sent₀ received₀ sent received : List ℕ) (next r : ℕ)
+    (inv : Passed n j first count s at sent₀ received₀ sent received next r) where
+  pub passed-sent : length sent ≡ length sent₀
+  passed-sent = rows-length _ _ _ _ _ _ _ _ _ _ (inv .sentRows)
 
-  turn : checkpointsQuestion (b .mark) true (replicate w 0) count (numbersFrom b s at .found)
-      ≡
-      (step .question then λ _. checkpointsQuestion (b .mark) false (take w (numbersFrom b s next .found)) (count - (r + 1)) (drop w (numbersFrom b s next .found)))
-  turn =
-      let more : count - r ≡ suc (count - (r + 1)) = omega arith in
-      inv .asked
-      ∙ ap (λ (m : ℕ). checkpointsQuestion (b .mark) (eqb r 0) (take w row) m (numbersFrom b s next .found)) more
-      ∙ checkpoints-more (b .mark) (eqb r 0) (take w row) (count - (r + 1)) (numbersFrom b s next .found)
-      ∙ ap
-      (λ (q : ℕ). q then λ _. checkpointsQuestion (b .mark) false (take (length (take w row)) (numbersFrom b s next .found)) (count - (r + 1)) (drop (length (take w row)) (numbersFrom b s next .found)))
-      (sym (did .asked))
-      ∙ ap
-      (λ (m : ℕ). step .question then λ _. checkpointsQuestion (b .mark) false (take m (numbersFrom b s next .found)) (count - (r + 1)) (drop m (numbersFrom b s next .found))) width
+  pub passed-received : length received ≡ length received₀
+  passed-received = rows-length _ _ _ _ _ _ _ _ _ _ (inv .receivedRows)
 
-  pub passed-refused : (step .question ≡ 0 → ⊥) → CheckpointsChecked b w count s at step
-  passed-refused z = record { asked = sym (turn ∙ then-refused _ _ z); rest = λ e. absurd (z e) }
+  module _ (fits : RowsClear n j first count sent₀) (fits′ : RowsClear n j first count received₀) (h : r < count) where
+    pub sent-fits : RowClear (eqb r 0) n j ((first + r) * 16) sent
+    sent-fits = rows-fit _ _ _ _ _ _ _ _ _ _ (inv .sentRows) fits h
 
-  pub passed-more : step .question ≡ 0 → length read ≡ w → (row′ : List ℕ) → row′ ≡ read ++ drop w row → Passed b w count s at (step .next)
-      (r + 1) row′
-  passed-more z wide row′ e =
-      let go : numbersFrom b s (step .next) ≡ after w (numbersFrom b s next) = did .rest z ∙ ap (λ (m : ℕ). after m (numbersFrom b s next)) width in
-      let now : take w row′ ≡ take w (numbersFrom b s next .found) =
-      ap (take w) e ∙ take-at read (drop w row) w wide ∙ did .read z ∙ ap (λ (m : ℕ). take m (numbersFrom b s next .found)) width in
-      let later : eqb (r + 1) 0 ≡ false = ne-eqb (r + 1) 0 (λ z. omega arith) in
-      let places : r * w + w ≡ (r + 1) * w = rw (add-one r) (sym (suc-mul r w)) in
+    pub received-fits : RowClear (eqb r 0) n j ((first + r) * 16) received
+    received-fits = rows-fit _ _ _ _ _ _ _ _ _ _ (inv .receivedRows) fits′ h
+
+    module _ (one : Step) (sent′ : List ℕ) (did : RowTaken (eqb r 0) n j ((first + r) * 16) s next one sent sent′) where
+      turn : processQuestion mark n count (listFrom s at)
+          ≡ (one .question
+          then λ _. countersQuestion mark (eqb r 0) (rowBefore n j first r received) (drop (n - 1) (listFrom s next))
+          then λ _. questionAfter n (count - (r + 1)) (listFrom s next))
+      turn =
+          let more : count - r ≡ suc (count - (r + 1)) = omega arith in
+          inv .asked
+          ∙ ap
+          (λ (m : ℕ). checkpointsQuestion mark (eqb r 0) (bothBefore n j first r sent received) m (listFrom s next)) more
+          ∙ checkpoints-both (eqb r 0) (rowBefore n j first r sent)
+          (rowBefore n j first r received) (listFrom s next) (count - (r + 1)) (n - 1)
+          (length-before (eqb r 0) n j ((first + r) * 16) sent sent-fits)
+          (length-before (eqb r 0) n j ((first + r) * 16) received received-fits)
+          ∙ ap
+          (λ (q : ℕ). q then λ _. countersQuestion mark (eqb r 0) (rowBefore n j first r received) (drop (n - 1) (listFrom s next)) then λ _. questionAfter n (count - (r + 1)) (listFrom s next)) (sym (did .asked))
+
+      refused : (step : Step) (sent₁ received₁ : List ℕ) → step .question ≡ processQuestion mark n count (listFrom s at)
+          → (step .question ≡ 0 → ⊥) → CheckpointsTaken n j first count s at step sent₀ received₀ sent₁ received₁
+      refused step sent₁ received₁ e z =
+          record { asked = e; rest = λ w. absurd (z w); sentRead = λ w. absurd (z w); receivedRead = λ w. absurd (z w) }
+
+      pub sent-refused : (one .question ≡ 0 → ⊥) → CheckpointsTaken n j first count s at one sent₀ received₀ sent′ received
+      sent-refused z = refused one sent′ received (sym (turn ∙ then-refused _ _ z)) z
+
+      module _ (z : one .question ≡ 0) (two : Step) (received′ : List ℕ)
+          (did′ : RowTaken (eqb r 0) n j ((first + r) * 16) s (one .next) two received received′) where
+        middle : listFrom s (one .next) ≡ drop (n - 1) (listFrom s next)
+        middle = ap (λ (ns : Numbers). ns .found) (did .rest z)
+
+        turn′ : processQuestion mark n count (listFrom s at)
+            ≡ (two .question
+            then λ _. questionAfter n (count - (r + 1)) (listFrom s next))
+        turn′ =
+            turn ∙ then-passed _ _ z
+            ∙ ap
+            (λ (q : ℕ). q then λ _. questionAfter n (count - (r + 1)) (listFrom s next))
+            (sym (did′ .asked ∙ ap (λ (vs : List ℕ). countersQuestion mark (eqb r 0) (rowBefore n j first r received) vs) middle))
+
+        pub received-refused : (two .question ≡ 0 → ⊥) → CheckpointsTaken n j first count s at two sent₀ received₀ sent′ received′
+        received-refused y = refused two sent′ received′ (sym (turn′ ∙ then-refused _ _ y)) y
+
+        -- a checkpoint more
+        module _ (y : two .question ≡ 0) where
+          on : numbersFrom s (two .next) ≡ after (width n) (numbersFrom s next)
+          on =
+              let both : n - 1 + (n - 1) ≡ width n = omega arith in
+              did′ .rest y ∙ ap (after (n - 1)) (did .rest z) ∙ after-after (n - 1) (n - 1) (numbersFrom s next)
+              ∙ ap (λ (k : ℕ). after k (numbersFrom s next)) both
+
+          left : listFrom s (two .next) ≡ drop (width n) (listFrom s next)
+          left = ap (λ (ns : Numbers). ns .found) on
+
+          -- the rows just put are those before the next
+          before-now : bothBefore n j first (r + 1) sent′ received′ ≡ take (width n) (listFrom s next)
+          before-now =
+              let later : eqb (r + 1) 0 ≡ false = ne-eqb (r + 1) 0 (λ e. omega arith) in
+              let place : (first + (r + 1)) * 16 ≡ (first + r + 1) * 16 = omega arith in
+              let both : n - 1 + (n - 1) ≡ width n = omega arith in
+              ap₂ (λ (o : Bool) (k : ℕ). countersBefore o n j k sent′ ++ countersBefore o n j k received′) later place
+              ∙ ap₂ (λ (a b : List ℕ). a ++ b) (row-next (eqb r 0) n j (first + r) sent sent′ s next one sent-fits did z)
+              (row-next (eqb r 0) n j (first + r) received received′ s (one .next) two received-fits did′ y ∙ ap (take (n - 1)) middle)
+              ∙ sym (take-add (n - 1) (n - 1) (listFrom s next))
+              ∙ ap (λ (k : ℕ). take k (listFrom s next)) both
+
+          pub passed-more : Passed n j first count s at sent₀ received₀ sent′ received′ (two .next) (r + 1)
+          passed-more =
+              let vs : List ℕ = listFrom s next in
+              let sentHalf : take (n - 1) (take (width n) vs) ≡ take (n - 1) vs = take-take (n - 1) (width n) vs (omega arith) in
+              let both : width n ≡ n - 1 + (n - 1) = omega arith in
+              let receivedHalf : drop (n - 1) (take (width n) vs) ≡ take (n - 1) (listFrom s (one .next)) =
+              ap (λ (k : ℕ). drop (n - 1) (take k vs)) both ∙ drop-take (n - 1) (n - 1) vs ∙ ap (take (n - 1)) (sym middle) in
+              let places : r * width n + width n ≡ (r + 1) * width n = rw (add-one r) (sym (suc-mul r (width n))) in
+              let later : eqb (r + 1) 0 ≡ false = ne-eqb (r + 1) 0 (λ e. omega arith) in
+              record {
+                within = omega arith;
+                sentRows =
+                    rw left
+                    (rows-more _ _ _ _ _ _ _ _ _ _ (inv .sentRows) (take (n - 1) vs) sent′ h sentHalf (row-short (eqb r 0) n j (first + r) sent sent′ s next one sent-fits did z) (did .read z));
+                receivedRows =
+                    rw left
+                    (rows-more _ _ _ _ _ _ _ _ _ _ (inv .receivedRows) (take (n - 1) (listFrom s (one .next))) received′ h receivedHalf (row-short (eqb r 0) n j (first + r) received received′ s (one .next) two received-fits did′ y) (did′ .read y));
+                rest = on ∙ ap (after (width n)) (inv .rest) ∙ after-after (r * width n) (width n) (numbersFrom s at)
+                    ∙ ap (λ (k : ℕ). after k (numbersFrom s at)) places;
+                asked = turn′ ∙ then-passed _ _ y
+                    ∙ ap₂ (λ (bs vs′ : List ℕ). checkpointsQuestion mark false bs (count - (r + 1)) vs′) (sym before-now) (sym left)
+                    ∙ ap
+                    (λ (o : Bool). checkpointsQuestion mark o (bothBefore n j first (r + 1) sent′ received′) (count - (r + 1)) (listFrom s (two .next))) (sym later);
+              }
+
+  -- all are taken
+  pub passed-ended : count ≤ r → CheckpointsTaken n j first count s at (record { question = 0; next = next }) sent₀ received₀ sent received
+  passed-ended h =
+      let all : r ≡ count = omega (arith, inv .within) in
+      let none : count - r ≡ 0 = omega arith in
       record {
-        within = omega arith;
-        long = ap length e ∙ simp (length-append, length-drop) (omega (arith, inv .long));
-        asked = turn ∙ then-passed _ _ z ∙ rw (later, now, go);
-        rest = go ∙ ap (after w) (inv .rest) ∙ after-after (r * w) w (numbersFrom b s at) ∙ ap (λ (m : ℕ). after m (numbersFrom b s at)) places;
+        asked = sym
+            (inv .asked ∙ ap (λ (m : ℕ). checkpointsQuestion mark (eqb r 0) (bothBefore n j first r sent received) m (listFrom s next)) none
+            ∙ checkpoints-none (eqb r 0) (bothBefore n j first r sent received) (listFrom s next));
+        rest = λ _. inv .rest ∙ ap (λ (m : ℕ). after (m * width n) (numbersFrom s at)) all;
+        sentRead = λ _. rows-ended _ _ _ _ _ _ _ _ _ _ (inv .sentRows) h;
+        receivedRead = λ _. rows-ended _ _ _ _ _ _ _ _ _ _ (inv .receivedRows) h;
       }
-
-pub passed-ended : (b : Bounds) (w count : ℕ) (s : List ℕ) (at next r : ℕ) (row : List ℕ) → Passed b w count s at next r row → count ≤ r
-    → CheckpointsChecked b w count s at (record { question = 0; next = next })
-passed-ended b w count s at next r row inv h =
-    let all : r ≡ count = omega (arith, inv .within) in
-    let none : count - r ≡ 0 = omega arith in
-    record {
-      asked = sym
-          (inv .asked ∙ ap (λ (m : ℕ). checkpointsQuestion (b .mark) (eqb r 0) (take w row) m (numbersFrom b s next .found)) none ∙ checkpoints-none (b .mark) (eqb r 0) (take w row) (numbersFrom b s next .found));
-      rest = λ _. inv .rest ∙ ap (λ (m : ℕ). after (m * w) (numbersFrom b s at)) all;
-    }

@@ -1,138 +1,169 @@
--- The turns of the loop over one checkpoint's counters.
-use mathlib.Core.Path.{_≡_, refl, sym, ap, _∙_}
-use mathlib.Core.Bool.{Bool}
-use mathlib.Core.List.{List, [], _∷_, _++_, append-nil}
-use Prim.Native.Nat.{ℕ, _+_, _≤_, _<_}
+-- The turns of the loop over one row's counters.
+use mathlib.Core.Path.{_≡_, refl, sym, ap, ap₂, _∙_}
+use mathlib.Core.Bool.{Bool, true, false}
+use mathlib.Core.List.{List, [], _∷_, _++_}
+use Prim.Native.Nat.{ℕ, suc, _+_, _-_, _≤_, _<_}
+use native.Mathlib.Numerals.{add-one}
 use native.Mathlib.Omega.{arith}
-use lib.ListN.{length, take, drop, getD, set, length-append}
-use lib.Seq.{take-at, drop-at, set-at, getD-at, append-snoc}
+use lib.ListN.{length, take, drop, getD, set, length-append, length-drop, drop-of-length-le}
+use lib.Seq.{sets, length-sets, take-at, drop-at, drop-cons, append-snoc}
 use Rattle.varint.specs.declared.Numeral.the-variants.{Number, Refused}
 use Rattle.varint.specs.Number.{readNumber}
-use Rattle.varint.specs.Sequence.{Numbers, numbersAt, after}
+use Rattle.varint.specs.Sequence.{Numbers, after}
 use Rattle.varint.proofs.Sequence.{numbers-none, numbers-more}
+use Rattle.book.specs.Bounds.{groups, largest, mark}
+use Rattle.book.specs.Before.{entryBefore, countersBefore}
 use Rattle.book.specs.InTurn.{_then_}
+use Rattle.book.specs.Tables.{tableRow, others, column}
 use Rattle.book.specs.Questions.{counterQuestion}
 use Rattle.book.specs.Along.{countersQuestion}
 use Rattle.book.proofs.Questions.{then-passed, then-refused}
-use Rattle.book.specs.declared.Bounds.{Bounds}
-use Rattle.reader.specs.Parts.{numbersFrom, CountersChecked}
+use Rattle.book.proofs.Rows.{length-row, column-within}
+use Rattle.book.proofs.Before as rows-before
+use Rattle.reader.specs.Parts.{numbersFrom, RowClear, RowTaken}
+use Rattle.reader.proofs.RowTurns.{row-none, row-put}
+use Rattle.reader.proofs.Stores.{clear-same, set-within, getD-below}
 
 -- numbers in front of what is found after them
-abbrev pub prepend : List ℕ → Numbers → Numbers
+abbrev prepend : List ℕ → Numbers → Numbers
 prepend done ns = record { found = done ++ ns .found; stop = ns .stop }
 
--- the numbers after those in front
-pub drop-prepend : (done : List ℕ) (ns : Numbers) (k : ℕ) → length done ≡ k → after k (prepend done ns) ≡ ns
-drop-prepend done ns k e = λ i. record { found = drop-at done (ns .found) k e i; stop = ns .stop }
-
-empty : (l : List ℕ) → length l ≡ 0 → l ≡ []
-empty [] e = refl
-empty (x ∷ l) e = absurd (omega arith)
-
--- what follows a list is a head and a tail where there is room
-cons-at : (done left : List ℕ) (k : ℕ) → length done ≡ k → k < length (done ++ left) → left ≡ getD (done ++ left) k 0 ∷ drop 1 left
-cons-at done [] k e h = absurd (omega (arith, length-append done []))
-cons-at done (b ∷ left) k e h = ap (λ (x : ℕ). x ∷ left) (sym (getD-at done b left 0 k e))
-
-counters-cons : (mark : ℕ) (oldest : Bool) (b v : ℕ) (bs vs : List ℕ)
+counters-cons : (oldest : Bool) (b v : ℕ) (bs vs : List ℕ)
     → countersQuestion mark oldest (b ∷ bs) (v ∷ vs) ≡ (counterQuestion mark oldest b v then λ _. countersQuestion mark oldest bs vs)
 unfolding countersQuestion
-counters-cons mark oldest b v bs vs = refl
+counters-cons oldest b v bs vs = refl
 
-counters-short : (mark : ℕ) (oldest : Bool) (b : ℕ) (bs : List ℕ) → countersQuestion mark oldest (b ∷ bs) [] ≡ 3
+counters-short : (oldest : Bool) (b : ℕ) (bs : List ℕ) → countersQuestion mark oldest (b ∷ bs) [] ≡ 3
 unfolding countersQuestion
-counters-short mark oldest b bs = refl
+counters-short oldest b bs = refl
 
-counters-none : (mark : ℕ) (oldest : Bool) (vs : List ℕ) → countersQuestion mark oldest [] vs ≡ 0
+counters-none : (oldest : Bool) (vs : List ℕ) → countersQuestion mark oldest [] vs ≡ 0
 unfolding countersQuestion
-counters-none mark oldest vs = refl
+counters-none oldest vs = refl
 
--- k counters are read: they stand first in the row, and what is left to ask is asked of the numbers that follow
-pub record Sofar (g l mark : ℕ) (oldest : Bool) (row₀ s : List ℕ) (at next k : ℕ) (row : List ℕ) : Type 0 where
+-- the counters of the row before, one for each of the others
+module _ (oldest : Bool) (n j start : ℕ) (table : List ℕ) (fits : RowClear oldest n j start table) where
+  wide-before : n ≤ length (drop (start - 16) table)
+  wide-before = rw length-drop (omega arith)
+
+  pub length-before : length (countersBefore oldest n j start table) ≡ n - 1
+  length-before = rows-before.length-before n j start table (fits .present) wide-before oldest
+
+  -- the entry one row before is the same after a part of the row is put
+  before-put : (o : Bool) (k : ℕ) (row : List ℕ) → k < n - 1 → (o ≡ false → 16 ≤ start)
+      → entryBefore o (start + column j k) table ≡ entryBefore o (start + column j k) (sets table start row)
+  before-put true k row h later = refl
+  before-put false k row h later =
+      let at = later refl in
+      sym (getD-below row table start (start + column j k - 16) (omega (arith, column-within j k, fits .most)))
+
+  before-there : (k : ℕ) (row : List ℕ) → k < n - 1
+      → getD (countersBefore oldest n j start table) k 0 ≡ entryBefore oldest (start + column j k) (sets table start row)
+  before-there k row h =
+      rows-before.before-there n j start table (fits .present) wide-before oldest k (fits .later) h ∙ before-put oldest k row h (fits .later)
+
+-- k counters are read: they stand in their columns, and what is left to ask is asked of the numbers that follow
+pub record Sofar (oldest : Bool) (n j start : ℕ) (table₀ s : List ℕ) (at next k : ℕ) (table : List ℕ) : Type 0 where
+  pub within : k ≤ n - 1
   pub done : List ℕ
-  pub old : List ℕ
-  pub left : List ℕ
   pub passed : length done ≡ k
-  pub replaced : length old ≡ k
-  pub begun : row₀ ≡ old ++ left
-  pub present : row ≡ done ++ left
-  pub found : numbersAt g l s at ≡ prepend done (numbersAt g l s next)
-  pub asked : countersQuestion mark oldest row₀ (numbersAt g l s at .found) ≡ countersQuestion mark oldest left (numbersAt g l s next .found)
+  pub present : table ≡ sets table₀ start (tableRow j done)
+  pub found : numbersFrom s at ≡ prepend done (numbersFrom s next)
+  pub asked : countersQuestion mark oldest (countersBefore oldest n j start table₀) (numbersFrom s at .found)
+      ≡ countersQuestion mark oldest (drop k (countersBefore oldest n j start table₀)) (numbersFrom s next .found)
 
-pub sofar-begun : (g l mark : ℕ) (oldest : Bool) (row s : List ℕ) (at : ℕ) → Sofar g l mark oldest row s at at 0 row
-sofar-begun g l mark oldest row s at =
-    record { done = []; old = []; left = row; passed = refl; replaced = refl; begun = refl; present = refl; found = refl; asked = refl }
+module _ (oldest : Bool) (n j start : ℕ) (table₀ s : List ℕ) (at : ℕ) (fits : RowClear oldest n j start table₀) where
+  abbrev before : List ℕ
+  before = countersBefore oldest n j start table₀
 
-module _ (g l mark : ℕ) (oldest : Bool) (row₀ s : List ℕ) (at next k : ℕ) (row : List ℕ) (inv : Sofar g l mark oldest row₀ s at next k row) where
-  pub sofar-length : length row ≡ length row₀
-  sofar-length = rw (inv .present, inv .begun) (simp length-append (omega arith))
+  pub sofar-begun : Sofar oldest n j start table₀ s at at 0 table₀
+  sofar-begun =
+      record {
+        within = omega arith;
+        done = [];
+        passed = refl;
+        present = sym (ap (sets table₀ start) (row-none j) ∙ clear-same 16 start table₀ (fits .clear));
+        found = refl;
+        asked = refl;
+      }
 
-  split : k < length row → inv .left ≡ getD row k 0 ∷ drop 1 (inv .left)
-  split h =
-      rw (inv .present)
-      (cons-at (inv .done) (inv .left) k (inv .passed) (rw (inv .present) at h))
+  -- a question fails: nothing is said of the table
+  refused-row : (next q : ℕ) (table : List ℕ) → q ≡ countersQuestion mark oldest before (numbersFrom s at .found)
+      → (q ≡ 0 → ⊥) → RowTaken oldest n j start s at (record { question = q; next = next }) table₀ table
+  refused-row next q table e z = record { asked = e; rest = λ w. absurd (z w); read = λ w. absurd (z w) }
 
-  -- no number stands there
-  pub sofar-short : k < length row → readNumber g l s next ≡ Refused → 3 ≡ countersQuestion mark oldest row₀ (numbersAt g l s at .found)
-  sofar-short h r =
-      sym (inv .asked ∙ ap (λ (xs : List ℕ). countersQuestion mark oldest xs (numbersAt g l s next .found)) (split h)
-      ∙ ap (λ (ns : Numbers). countersQuestion mark oldest (getD row k 0 ∷ drop 1 (inv .left)) (ns .found)) (numbers-none g l s next r)
-      ∙ counters-short mark oldest (getD row k 0) (drop 1 (inv .left)))
+  module _ (next k : ℕ) (table : List ℕ) (inv : Sofar oldest n j start table₀ s at next k table) where
+    pub sofar-length : length table ≡ length table₀
+    sofar-length = ap length (inv .present) ∙ length-sets table₀ start (tableRow j (inv .done))
 
-  module _ (v after : ℕ) (h : k < length row) (r : readNumber g l s next ≡ Number v after) where
-    step : countersQuestion mark oldest row₀ (numbersAt g l s at .found)
-        ≡ (counterQuestion mark oldest (getD row k 0) v then λ _. countersQuestion mark oldest (drop 1 (inv .left)) (numbersAt g l s after .found))
-    step =
-        inv .asked ∙ ap (λ (xs : List ℕ). countersQuestion mark oldest xs (numbersAt g l s next .found)) (split h)
-        ∙ ap (λ (ns : Numbers). countersQuestion mark oldest (getD row k 0 ∷ drop 1 (inv .left)) (ns .found)) (numbers-more g l s next v after r)
-        ∙ counters-cons mark oldest (getD row k 0) v (drop 1 (inv .left)) (numbersAt g l s after .found)
+    module _ (h : k < n - 1) where
+      split : drop k before ≡ getD before k 0 ∷ drop (suc k) before
+      split = drop-cons before k 0 (rw (length-before oldest n j start table₀ fits) h)
 
-    -- the counter fails a question
-    pub sofar-refused : (q : ℕ) → q ≡ counterQuestion mark oldest (getD row k 0) v → (q ≡ 0 → ⊥) → q ≡ countersQuestion mark oldest row₀
-        (numbersAt g l s at .found)
-    sofar-refused q e z = e ∙ sym (step ∙ then-refused _ _ (λ w. z (e ∙ w)))
+      turn : (ns : Numbers) → numbersFrom s next ≡ ns
+          → countersQuestion mark oldest before (numbersFrom s at .found)
+          ≡ countersQuestion mark oldest (getD before k 0 ∷ drop (suc k) before) (ns .found)
+      turn ns e =
+          inv .asked ∙ ap (λ (bs : List ℕ). countersQuestion mark oldest bs (numbersFrom s next .found)) split
+          ∙ ap (λ (ms : Numbers). countersQuestion mark oldest (getD before k 0 ∷ drop (suc k) before) (ms .found)) e
 
-    -- it passes
-    pub sofar-more : (q : ℕ) → q ≡ counterQuestion mark oldest (getD row k 0) v → q ≡ 0 → Sofar g l mark oldest row₀ s at after (k + 1) (set row k v)
-    sofar-more q e z =
-        let b : ℕ = getD row k 0 in
-        let tl : List ℕ = drop 1 (inv .left) in
+      -- no number stands there
+      pub sofar-short : (next′ : ℕ) → readNumber groups largest s next ≡ Refused
+          → RowTaken oldest n j start s at (record { question = 3; next = next′ }) table₀ table
+      sofar-short next′ r =
+          refused-row next′ 3 table
+          (sym (turn (record { found = []; stop = next }) (numbers-none groups largest s next r)
+          ∙ counters-short oldest (getD before k 0) (drop (suc k) before)))
+          (λ z. omega arith)
+
+      module _ (v after col b q : ℕ) (r : readNumber groups largest s next ≡ Number v after) (place : col ≡ column j k)
+          (there : b ≡ entryBefore oldest (start + col) table) (e : q ≡ counterQuestion mark oldest b v) where
+        same : q ≡ counterQuestion mark oldest (getD before k 0) v
+        same =
+            e
+            ∙ ap (λ (x : ℕ). counterQuestion mark oldest x v)
+            (there ∙ ap₂ (λ (x : ℕ) (t : List ℕ). entryBefore oldest (start + x) t) place (inv .present)
+            ∙ sym (before-there oldest n j start table₀ fits k (tableRow j (inv .done)) h))
+
+        step : countersQuestion mark oldest before (numbersFrom s at .found)
+            ≡ (q then λ _. countersQuestion mark oldest (drop (suc k) before) (numbersFrom s after .found))
+        step =
+            turn (prepend (v ∷ []) (numbersFrom s after)) (numbers-more groups largest s next v after r)
+            ∙ counters-cons oldest (getD before k 0) v (drop (suc k) before) (numbersFrom s after .found)
+            ∙ ap (λ (p : ℕ). p then λ _. countersQuestion mark oldest (drop (suc k) before) (numbersFrom s after .found)) (sym same)
+
+        -- the counter fails a question
+        pub sofar-refused : (next′ : ℕ) → (q ≡ 0 → ⊥) → RowTaken oldest n j start s at (record { question = q; next = next′ }) table₀ table
+        sofar-refused next′ z = refused-row next′ q table (sym (step ∙ then-refused _ _ z)) z
+
+        -- it passes
+        pub sofar-more : q ≡ 0 → Sofar oldest n j start table₀ s at after (k + 1) (set table (start + col) v)
+        sofar-more z =
+            let few : k < 15 = omega (arith, fits .most) in
+            let wide : length (tableRow j (inv .done)) ≡ 16 = length-row j (inv .done) (omega (arith, inv .passed)) in
+            record {
+              within = omega arith;
+              done = inv .done ++ (v ∷ []);
+              passed = length-append (inv .done) (v ∷ []) ∙ ap (λ (m : ℕ). m + 1) (inv .passed);
+              present = ap₂ (λ (x : ℕ) (t : List ℕ). set t (start + x) v) place (inv .present)
+                  ∙ set-within (tableRow j (inv .done)) table₀ start (column j k) (start + column j k) v (omega (arith, column-within j k)) refl
+                  ∙ ap (sets table₀ start) (row-put j k v (inv .done) (inv .passed) few);
+              found = inv .found ∙ ap (prepend (inv .done)) (numbers-more groups largest s next v after r)
+                  ∙ (λ i. record { found = sym (append-snoc (inv .done) v (numbersFrom s after .found)) i; stop = numbersFrom s after .stop });
+              asked = step ∙ then-passed _ _ z
+                  ∙ ap (λ (m : ℕ). countersQuestion mark oldest (drop m before) (numbersFrom s after .found)) (sym (add-one k));
+            }
+
+    -- all are asked
+    pub sofar-ended : n - 1 ≤ k → RowTaken oldest n j start s at (record { question = 0; next = next }) table₀ table
+    sofar-ended h =
+        let all : length (inv .done) ≡ n - 1 = omega (arith, inv .passed, inv .within) in
+        let none : drop k before ≡ [] = drop-of-length-le before {i = k} (rw (length-before oldest n j start table₀ fits) h) in
         record {
-          done = inv .done ++ (v ∷ []);
-          old = inv .old ++ (b ∷ []);
-          left = tl;
-          passed = length-append (inv .done) (v ∷ []) ∙ ap (λ (n : ℕ). n + 1) (inv .passed);
-          replaced = length-append (inv .old) (b ∷ []) ∙ ap (λ (n : ℕ). n + 1) (inv .replaced);
-          begun = inv .begun ∙ ap (λ (xs : List ℕ). inv .old ++ xs) (split h) ∙ sym (append-snoc (inv .old) b tl);
-          present = ap (λ (xs : List ℕ). set xs k v) (inv .present ∙ ap (λ (xs : List ℕ). inv .done ++ xs) (split h))
-              ∙ set-at (inv .done) b tl v k (inv .passed) ∙ sym (append-snoc (inv .done) v tl);
-          found = inv .found ∙ ap (prepend (inv .done)) (numbers-more g l s next v after r)
-              ∙ (λ i. record { found = sym (append-snoc (inv .done) v (numbersAt g l s after .found)) i; stop = numbersAt g l s after .stop });
-          asked = step ∙ then-passed _ _ (sym e ∙ z);
+          asked = sym (inv .asked ∙ ap (λ (bs : List ℕ). countersQuestion mark oldest bs (numbersFrom s next .found)) none
+              ∙ counters-none oldest (numbersFrom s next .found));
+          rest = λ _. sym (ap (after (n - 1)) (inv .found)
+              ∙ (λ i. record { found = drop-at (inv .done) (numbersFrom s next .found) (n - 1) all i; stop = numbersFrom s next .stop }));
+          read = λ _. inv .present ∙ ap (λ (cs : List ℕ). sets table₀ start (tableRow j cs))
+              (sym (ap (λ (ns : Numbers). take (n - 1) (ns .found)) (inv .found) ∙ take-at (inv .done) (numbersFrom s next .found) (n - 1) all));
         }
-
-  left-none : length row ≤ k → inv .left ≡ []
-  left-none h = empty (inv .left) (omega (arith, inv .passed, simp length-append at (ap length (inv .present))))
-
--- all are asked
-pub sofar-ended : (b : Bounds) (oldest : Bool) (row₀ s : List ℕ) (at next k : ℕ) (row : List ℕ)
-    → Sofar (b .groups) (b .limit) (b .mark) oldest row₀ s at next k row → length row ≤ k
-    → CountersChecked b oldest row₀ s at (record { question = 0; next = next }) row
-sofar-ended b oldest row₀ s at next k row inv h =
-    let none : inv .left ≡ [] = left-none (b .groups) (b .limit) (b .mark) oldest row₀ s at next k row inv h in
-    let all : row₀ ≡ inv .old = inv .begun ∙ ap (λ (xs : List ℕ). inv .old ++ xs) none ∙ append-nil (inv .old) in
-    let long : length (inv .done) ≡ length row₀ = inv .passed ∙ sym (inv .replaced) ∙ ap length (sym all) in
-    record {
-      asked = sym
-          (inv .asked ∙ ap (λ (xs : List ℕ). countersQuestion (b .mark) oldest xs (numbersFrom b s next .found)) none ∙ counters-none (b .mark) oldest (numbersFrom b s next .found));
-      rest = λ _. sym (ap (after (length row₀)) (inv .found) ∙ drop-prepend (inv .done) (numbersFrom b s next) (length row₀) long);
-      read = λ _. inv .present ∙ ap (λ (xs : List ℕ). inv .done ++ xs) none ∙ append-nil (inv .done)
-          ∙ sym
-          (ap (λ (ns : Numbers). take (length row₀) (ns .found)) (inv .found) ∙ take-at (inv .done) (numbersFrom b s next .found) (length row₀) long);
-    }
-
--- a question fails: nothing is said of the row
-pub refused-counters : (b : Bounds) (oldest : Bool) (row₀ s : List ℕ) (at next q : ℕ) (row : List ℕ) → q ≡ countersQuestion
-    (b .mark) oldest row₀ (numbersFrom b s at .found) → (q ≡ 0 → ⊥)
-    → CountersChecked b oldest row₀ s at (record { question = q; next = next }) row
-refused-counters b oldest row₀ s at next q row e z = record { asked = e; rest = λ w. absurd (z w); read = λ w. absurd (z w) }

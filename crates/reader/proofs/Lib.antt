@@ -1,12 +1,11 @@
-pub mod Accepted
+pub mod Answers
+pub mod BookRows
 pub mod BookTurns
 pub mod CheckpointTurns
 pub mod CounterTurns
-pub mod FillBook
-pub mod FillProcess
-pub mod FillProcesses
-pub mod FillRow
-pub mod FillTurns
+pub mod ProcessRows
 pub mod ProcessTurns
 pub mod ProcessesTurns
 pub mod ReadTurns
+pub mod RowTurns
+pub mod Stores

@@ -1,11 +1,9 @@
--- The answers of a read and of its checking pass.
+-- The answers of a read: questions 1 and 2, then those along the book, and the tables that are left.
 use mathlib.Core.Path.{_≡_, sym, ap, _∙_}
 use mathlib.Core.List.{List}
-use Prim.Native.Nat.{ℕ, _≤_, _<_}
-use borrow.Author.Tests.{le-leb, lt-leb, eq-eqb, ne-eqb}
+use Prim.Native.Nat.{ℕ}
 use lib.ListN.{length}
 use Rattle.book.specs.declared.Answer.the-variants.{Accepted, Refused}
-use Rattle.book.specs.declared.Shape.{Shape}
 use Rattle.book.specs.Bounds.{mark}
 use Rattle.book.specs.Tables.{shapeOf, sentTable, receivedTable}
 use Rattle.book.specs.Read.{numbersOf, ended, bookRead, noShape, readQuestion, shapeRead, sentRead, receivedRead}
@@ -13,89 +11,91 @@ use Rattle.book.specs.InTurn.{_then_, answerTo, unlessRefused}
 use Rattle.book.specs.Questions.{bytesQuestion, lengthQuestion}
 use Rattle.book.specs.Along.{bookQuestion}
 use Rattle.book.proofs.Counts.{lengths-taken}
-use Rattle.book.proofs.Questions.{then-none, answer-passed, answer-refused, kept-passed, kept-refused}
+use Rattle.book.proofs.Questions.{then-none, then-passed, then-refused, then-assoc, answer-passed, answer-refused, kept-passed, kept-refused}
 use Rattle.reader.specs.declared.Checked.{Checked}
-use Rattle.reader.specs.Parts.{bookChecked}
-use Rattle.reader.proofs.FillBook.{bounds01}
-
--- what an accepted read passed: the tables' lengths, and the questions along the book
-pub record Passed (bytes sent received : List ℕ) : Type 0 where
-  pub sentLong : length sent ≡ 4096
-  pub receivedLong : length received ≡ 4096
-  pub book : bookQuestion mark (ended bytes) (numbersOf bytes) ≡ 0
+use Rattle.reader.specs.Parts.{sizesQuestion, refusal, BookTaken, BytesTaken}
 
 module _ (bytes sent received : List ℕ) where
-  pub read-long : 65536 < length bytes → readQuestion bytes sent received ≡ 1
+  parts : readQuestion bytes sent received
+      ≡ (sizesQuestion (length bytes) (length sent) (length received) then λ _. bookQuestion mark (ended bytes) (numbersOf bytes))
   unfolding readQuestion
-  read-long h = rw (lt-leb (length bytes) 65536 h)
+  parts = sym (then-assoc (bytesQuestion bytes) (λ _. lengthQuestion sent received) (λ _. bookQuestion mark (ended bytes) (numbersOf bytes)))
 
-  pub read-sent : length bytes ≤ 65536 → (length sent ≡ 4096 → ⊥) → readQuestion bytes sent received ≡ 2
-  unfolding readQuestion
-  read-sent h k = rw (le-leb (length bytes) 65536 h, ne-eqb (length sent) 4096 k)
-
-  pub read-received : length bytes ≤ 65536 → length sent ≡ 4096 → (length received ≡ 4096 → ⊥) → readQuestion bytes sent received ≡ 2
-  unfolding readQuestion
-  read-received h e k = rw (le-leb (length bytes) 65536 h, eq-eqb (length sent) 4096 e, ne-eqb (length received) 4096 k)
-
-  pub read-book : length bytes ≤ 65536 → length sent ≡ 4096 → length received ≡ 4096 → readQuestion bytes sent received ≡ bookQuestion mark
-      (ended bytes) (numbersOf bytes)
-  unfolding readQuestion
-  read-book h e k = rw (le-leb (length bytes) 65536 h, eq-eqb (length sent) 4096 e, eq-eqb (length received) 4096 k)
-
-  -- what an accepted read passed
-  pub read-passed : readQuestion bytes sent received ≡ 0 → Passed bytes sent received
-  unfolding readQuestion
-  read-passed h =
-      let one = then-none (bytesQuestion bytes) (λ _. lengthQuestion sent received then λ _. bookQuestion mark (ended bytes) (numbersOf bytes)) h in
-      let two = then-none (lengthQuestion sent received) (λ _. bookQuestion mark (ended bytes) (numbersOf bytes)) (one .1) in
-      let long = lengths-taken sent received (two .0) in
-      record { sentLong = long .0; receivedLong = long .1; book = two .1 }
-
-  -- what a check answers where a question fails, and where it goes on along the book
-  pub check-refused : (q : ℕ) (shape : Shape) → readQuestion bytes sent received ≡ q → (q ≡ 0 → ⊥) → shape ≡ noShape
-      → (q ≡ readQuestion bytes sent received) × (shape ≡ shapeRead bytes sent received)
-  unfolding shapeRead
-  check-refused q shape e z es =
-      (sym e, es ∙ sym (kept-refused (readQuestion bytes sent received) noShape (shapeOf (bookRead bytes)) (λ w. z (sym e ∙ w))))
-
-  pub check-along : (r : Checked) → readQuestion bytes sent received ≡ bookQuestion mark (ended bytes) (numbersOf bytes)
-      → r ≡ bookChecked bounds01 bytes
-      → (r .question ≡ readQuestion bytes sent received) × (r .shape ≡ shapeRead bytes sent received)
-  unfolding shapeRead
-  check-along r e er = (
-    ap (λ (x : Checked). x .question) er ∙ sym e,
-    ap (λ (x : Checked). x .shape) er ∙ ap (λ (q : ℕ). unlessRefused q noShape (shapeOf (bookRead bytes))) (sym e),
-  )
-
-  -- a refusal returns only the number, and changes nothing
-  pub read-refused : (q : ℕ) (shape : Shape) → q ≡ readQuestion bytes sent received → (q ≡ 0 → ⊥) → shape ≡ shapeRead bytes sent received
-      → (Refused q ≡ answerTo (readQuestion bytes sent received))
-      × ((shape ≡ shapeRead bytes sent received) × ((sent ≡ sentRead bytes sent received) × (received ≡ receivedRead bytes sent received)))
+  -- a refusal leaves everything as it was
+  pub left-refused : (r : Checked) → r .question ≡ readQuestion bytes sent received → (r .question ≡ 0 → ⊥) → r .shape ≡ shapeRead bytes sent received
+      → BytesTaken bytes sent received r sent received
   unfolding sentRead receivedRead
-  read-refused q shape e z es =
-      let ne : readQuestion bytes sent received ≡ 0 → ⊥ = λ w. z (e ∙ w) in (
-        ap Refused e ∙ sym (answer-refused (readQuestion bytes sent received) ne),
-        (
-          es,
-          (
-            sym (kept-refused (readQuestion bytes sent received) sent (sentTable (bookRead bytes)) ne),
-            sym (kept-refused (readQuestion bytes sent received) received (receivedTable (bookRead bytes)) ne),
-          ),
-        ),
-      )
+  left-refused r e z es =
+      let ne : readQuestion bytes sent received ≡ 0 → ⊥ = λ w. z (e ∙ w) in
+      record {
+        asked = e;
+        shaped = es;
+        sentLeft = sym (kept-refused (readQuestion bytes sent received) sent (sentTable (bookRead bytes)) ne);
+        receivedLeft = sym (kept-refused (readQuestion bytes sent received) received (receivedTable (bookRead bytes)) ne);
+      }
 
-  pub read-accepted : (shape : Shape) (sent′ received′ : List ℕ) → readQuestion bytes sent received ≡ 0 → shape ≡ shapeRead bytes sent received
-      → sent′ ≡ sentTable (bookRead bytes) → received′ ≡ receivedTable (bookRead bytes)
-      → (Accepted ≡ answerTo (readQuestion bytes sent received))
-      × ((shape ≡ shapeRead bytes sent received) × ((sent′ ≡ sentRead bytes sent received) × (received′ ≡ receivedRead bytes sent received)))
-  unfolding sentRead receivedRead
-  read-accepted shape sent′ received′ e es et er = (
-    sym (answer-passed (readQuestion bytes sent received) e),
-    (
-      es,
-      (
-        et ∙ sym (kept-passed (readQuestion bytes sent received) sent (sentTable (bookRead bytes)) e),
-        er ∙ sym (kept-passed (readQuestion bytes sent received) received (receivedTable (bookRead bytes)) e),
-      ),
-    ),
-  )
+  module _ (q : ℕ) (asked : q ≡ sizesQuestion (length bytes) (length sent) (length received)) where
+    -- question 1 or 2 fails
+    module _ (z : q ≡ 0 → ⊥) (r : Checked) (er : r ≡ refusal q) where
+      whole : q ≡ readQuestion bytes sent received
+      whole = asked ∙ sym (parts ∙ then-refused _ _ (λ w. z (asked ∙ w)))
+
+      pub sizes-question : r .question ≡ readQuestion bytes sent received
+      sizes-question = ap (λ (x : Checked). x .question) er ∙ whole
+
+      pub sizes-shape : r .shape ≡ shapeRead bytes sent received
+      unfolding shapeRead
+      sizes-shape =
+          ap (λ (x : Checked). x .shape) er
+          ∙ sym (kept-refused (readQuestion bytes sent received) noShape (shapeOf (bookRead bytes)) (λ w. z (whole ∙ w)))
+
+      pub sizes-refused : BytesTaken bytes sent received r sent received
+      sizes-refused = left-refused r sizes-question (λ w. z (sym (ap (λ (x : Checked). x .question) er) ∙ w)) sizes-shape
+
+    -- neither fails
+    module _ (z : q ≡ 0) where
+      pub sizes-long : (length sent ≡ 4096) × (length received ≡ 4096)
+      sizes-long = lengths-taken sent received (then-none (bytesQuestion bytes) (λ _. lengthQuestion sent received) (sym asked ∙ z) .1)
+
+      module _ (r : Checked) (sent₁ received₁ : List ℕ) (did : BookTaken bytes r sent₁ received₁) where
+        along : bookQuestion mark (ended bytes) (numbersOf bytes) ≡ readQuestion bytes sent received
+        along = sym (parts ∙ then-passed _ _ (sym asked ∙ z))
+
+        pub book-question : r .question ≡ readQuestion bytes sent received
+        book-question = ap (λ (x : Checked). x .question) (did .answered) ∙ along
+
+        pub book-shape : r .shape ≡ shapeRead bytes sent received
+        unfolding shapeRead
+        book-shape = ap (λ (x : Checked). x .shape) (did .answered) ∙ ap (λ (p : ℕ). unlessRefused p noShape (shapeOf (bookRead bytes))) along
+
+        pub book-refused : (r .question ≡ 0 → ⊥) → BytesTaken bytes sent received r sent received
+        book-refused y = left-refused r book-question y book-shape
+
+        -- the pass's own tables are copied
+        pub book-copied : r .question ≡ 0 → (sent′ received′ : List ℕ) → sent′ ≡ sent₁ → received′ ≡ received₁
+            → BytesTaken bytes sent received r sent′ received′
+        unfolding sentRead receivedRead
+        book-copied y sent′ received′ es er =
+            let none : readQuestion bytes sent received ≡ 0 = sym book-question ∙ y in
+            record {
+              asked = book-question;
+              shaped = book-shape;
+              sentLeft = es ∙ did .sentRead y ∙ sym (kept-passed (readQuestion bytes sent received) sent (sentTable (bookRead bytes)) none);
+              receivedLeft = er ∙ did .receivedRead y
+                  ∙ sym (kept-passed (readQuestion bytes sent received) received (receivedTable (bookRead bytes)) none);
+            }
+
+  module _ (r : Checked) (sent′ received′ : List ℕ) (did : BytesTaken bytes sent received r sent′ received′) where
+    pub answer-no : (r .question ≡ 0 → ⊥) → Refused (r .question) ≡ answerTo (readQuestion bytes sent received)
+    answer-no z = ap Refused (did .asked) ∙ sym (answer-refused (readQuestion bytes sent received) (λ w. z (did .asked ∙ w)))
+
+    pub answer-yes : r .question ≡ 0 → Accepted ≡ answerTo (readQuestion bytes sent received)
+    answer-yes z = sym (answer-passed (readQuestion bytes sent received) (sym (did .asked) ∙ z))
+
+    -- the tables of an accepted book
+    pub filled : readQuestion bytes sent received ≡ 0 → (sent′ ≡ sentTable (bookRead bytes)) × (received′ ≡ receivedTable (bookRead bytes))
+    unfolding sentRead receivedRead
+    filled e = (
+      did .sentLeft ∙ kept-passed (readQuestion bytes sent received) sent (sentTable (bookRead bytes)) e,
+      did .receivedLeft ∙ kept-passed (readQuestion bytes sent received) received (receivedTable (bookRead bytes)) e,
+    )

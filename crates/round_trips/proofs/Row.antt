@@ -1,39 +1,17 @@
 -- One row of a table: the counters for the other processes, and back.
-use mathlib.Core.Path.{_≡_, refl, _∙_}
+use mathlib.Core.Path.{_≡_, _∙_}
 use mathlib.Core.Bool.{true}
-use mathlib.Core.List.{List, [], _∷_, _++_, append-assoc}
-use Prim.Native.Nat.{ℕ, zero, suc, _-_, _≤_, _<_}
+use mathlib.Core.List.{List, _∷_, _++_, append-assoc}
+use Prim.Native.Nat.{ℕ, suc, _-_, _≤_, _<_}
 use native.Mathlib.Omega.{arith}
-use lib.ListN.{length, take, drop, getD, replicate, take-append-drop}
+use lib.ListN.{length, take, drop, getD, replicate}
 use lib.Seq.{length-take-le, take-at, drop-at, getD-at, split-at, take-take, getD-take}
 use Rattle.book.specs.Tables.{padded, tableRow, others}
 use Rattle.book.specs.Questions.{allZero}
 use Rattle.book.proofs.Rows.{length-spread}
 use Rattle.round_trips.proofs.Zeros.{zeros, length-padded, padded-take}
 
-drop-past : (p q : List ℕ) (x n : ℕ) → length p ≡ n → drop (suc n) (p ++ x ∷ q) ≡ q
-drop-past [] q x zero h = refl
-drop-past [] q x (suc n) h = absurd (omega arith)
-drop-past (y ∷ p) q x zero h = absurd (omega arith)
-drop-past (y ∷ p) q x (suc n) h = drop-past p q x n (omega arith)
-
 module _ (n j : ℕ) (cs rest : List ℕ) (h : j < n) (k : n ≤ 16) (long : length cs ≡ n - 1) where
-  pub others-row : others n j (tableRow j cs ++ rest) ≡ cs
-  unfolding others tableRow
-  others-row =
-      let a : List ℕ = take j cs ++ 0 ∷ drop j cs in
-      let pad : List ℕ = replicate (16 - length a) 0 in
-      let la : length a ≡ n = length-spread j cs ∙ omega arith in
-      let lj : length (take j cs) ≡ j = length-take-le j cs (omega arith) in
-      rw (
-        append-assoc a pad rest,
-        take-at a (pad ++ rest) n la,
-        append-assoc (take j cs) (0 ∷ drop j cs) (pad ++ rest),
-        take-at (take j cs) (0 ∷ drop j cs ++ (pad ++ rest)) j lj,
-        drop-past (take j cs) (drop j cs) 0 j lj,
-        take-append-drop j cs,
-      )
-
   -- the own column is zero, and so are those of absent processes
   pub row-own : getD (tableRow j cs ++ rest) j 0 ≡ 0
   unfolding tableRow

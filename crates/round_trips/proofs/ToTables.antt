@@ -10,10 +10,10 @@ use Rattle.book.specs.Layout.{width}
 use Rattle.book.specs.Tables.{tableRow, processRows, rowsFrom, countsOf, checkpointsOf, processesOf}
 use Rattle.book.specs.View.{sum}
 use Rattle.book.specs.Questions.{allZero, unusedOf, unusedFrom}
-use Rattle.book.proofs.Rows.{length-row}
+use Rattle.book.proofs.Rows.{length-row, others-row}
 use Rattle.round_trips.proofs.Zeros.{zeros-append}
 use Rattle.round_trips.proofs.Numbers.{Wide, AllWide}
-use Rattle.round_trips.proofs.Row.{others-row, row-own, row-absent}
+use Rattle.round_trips.proofs.Row.{row-own, row-absent}
 
 pub length-countsOf : (ps : List (List (List ℕ))) → length (countsOf ps) ≡ length ps
 unfolding countsOf

@@ -17,7 +17,7 @@ use Rattle.round_trips.proofs.Tables.{Checked}
 use Rattle.line_theory.specs.Over.{sumTo}
 use Rattle.line_theory.specs.Sets.{View, IsBook}
 use Rattle.line_theory.specs.OfTables.{viewOf}
-use Rattle.line_theory.proofs.Accepted.{by-column, checked, well, unused-entry, inside, received-own, sent-of, received-of, accepted-is-book}
+use Rattle.line_theory.proofs.Accepted.{by-column, checked, well, unused-entry, inside, received-own, sent-of, received-of, received-rises, accepted-is-book}
 use Rattle.shown.specs.Statements.{IsCounter, ShowsBook, ZeroElsewhere, AreAccepted, AcceptedShows, AcceptedZeroElsewhere}
 use Rattle.shown.proofs.Sums.{sum-to}
 
@@ -76,15 +76,6 @@ module _ (shape : Shape) (sent received : List ℕ) (are : AreAccepted shape sen
       by-column (λ q. S shape sent j 1 q ≡ 0) (shape .n) j h (is-book .own j 1 h (omega arith) some .0)
       (λ k i. other-sent j 0 h some k i ∙ accepted-well .oldest j k h (omega arith)) p
 
-  received-rising : (j r p : ℕ) → j < shape .n → p < shape .n → suc r < count shape j
-      → R shape received j (suc r) p ≤ R shape received j (suc (suc r)) p
-  received-rising j r p h o m =
-      let m′ : r < count shape j = omega arith in
-      by-column (λ q. R shape received j (suc r) q ≤ R shape received j (suc (suc r)) q) (shape .n) j h (rw (own-received j r h m′) (omega arith))
-      (λ k i.
-      rw (other-received j r h m′ k i, other-received j (suc r) h m k i)
-      (accepted-well .rising j r (shape .n - 1 + k) h (there j (suc r) h m) (omega arith))) p o
-
   shows : ShowsBook v
   shows =
       record {
@@ -109,7 +100,7 @@ module _ (shape : Shape) (sent received : List ℕ) (are : AreAccepted shape sen
       rising j zero p is m = absurd (omega (arith, is .first))
       rising j (suc r) p is m = (
         is-book .rising j (suc r) p (is .process) (is .partner) (omega arith) m,
-        received-rising j r p (is .process) (is .partner) m,
+        received-rises shape sent received (are .sixteen) (are .passed) j (suc r) p (is .process) (is .partner) (omega arith) m,
       )
 
 pub accepted-zero-elsewhere : AcceptedZeroElsewhere

@@ -5,14 +5,16 @@ use mathlib.Core.List.{List, []}
 use Prim.Native.Nat.{ℕ, _+_, _-_, _≤_, _<_}
 use native.Mathlib.Numerals.{add-one}
 use native.Mathlib.Omega.{arith}
-use lib.ListN.{length, drop, getD, length-drop, length-replicate, getD-replicate, drop-of-length-le}
+use lib.ListN.{length, drop, getD, length-drop, drop-of-length-le}
 use lib.Seq.{drop-cons, getD-drop}
 use Rattle.book.specs.Tables.{others, column}
 use Rattle.book.specs.InTurn.{_then_}
+use Rattle.book.specs.Before.{entryBefore, countersBefore}
 use Rattle.book.specs.Questions.{counterQuestion}
 use Rattle.book.specs.Along.{countersQuestion}
 use Rattle.book.proofs.Rows.{length-others, getD-others}
-use Rattle.tables.specs.Before.{RowFits, entryBefore, countersBefore}
+use Rattle.book.proofs.Before as rows-before
+use Rattle.tables.specs.Before.{RowFits}
 use Rattle.tables.proofs.Answers.{answer-fails, answer-passes}
 
 -- the questions of counters, one more of them on each side
@@ -43,29 +45,14 @@ module _ (oldest : Bool) (table : List ℕ) (start n j : ℕ) (row : RowFits old
   length-row = length-others n j (drop start table) (row .fits .present) wide
 
   pub length-before : length (countersBefore oldest n j start table) ≡ n - 1
-  unfolding countersBefore
-  length-before = go oldest
-    where
-      go : (o : Bool) → length (countersBefore o n j start table) ≡ n - 1
-      go true = length-replicate (n - 1) 0
-      go false = length-others n j (drop (start - 16) table) (row .fits .present) wide-before
+  length-before = rows-before.length-before n j start table (row .fits .present) wide-before oldest
 
   module _ (k : ℕ) (h : k < n - 1) where
     there : getD (others n j (drop start table)) k 0 ≡ getD table (start + column j k) 0
     there = getD-others n j k (drop start table) (row .fits .present) wide h ∙ getD-drop start table (column j k) 0
 
     before-there : getD (countersBefore oldest n j start table) k 0 ≡ entryBefore oldest (start + column j k) table
-    unfolding countersBefore
-    before-there = go oldest (row .later)
-      where
-        go : (o : Bool) → (o ≡ false → 16 ≤ start) → getD (countersBefore o n j start table) k 0 ≡ entryBefore o (start + column j k) table
-        go true later = getD-replicate (n - 1) k 0 0 h
-        go false later =
-            let at = later refl in
-            let same : start - 16 + column j k ≡ start + column j k - 16 = omega arith in
-            getD-others n j k (drop (start - 16) table) (row .fits .present) wide-before h
-            ∙ getD-drop (start - 16) table (column j k) 0
-            ∙ ap (λ (i : ℕ). getD table i 0) same
+    before-there = rows-before.before-there n j start table (row .fits .present) wide-before oldest k (row .later) h
 
   module _ (whole mark k : ℕ) (t : Asked whole mark oldest table start n j k) where
     asked : ℕ

@@ -11,7 +11,7 @@ use Rattle.book.specs.Check.{countsQuestion}
 use Rattle.book.specs.Fits.{RowsFit, BookFits}
 use Rattle.book.proofs.Counts.{counts-some}
 use Rattle.tables.specs.Sound.{Between, Known, Rising, RowsSound, TableSound}
-use Rattle.tables.proofs.Sweeps.{one-more}
+use Rattle.book.proofs.Loops.{below-more}
 use Rattle.tables.proofs.BookTurns.{Placed, placed-none, placed-more}
 
 -- what the sweeps see of the rows of a process
@@ -67,7 +67,7 @@ module _ (n : ℕ) (counts table : List ℕ) (first j : ℕ) (s : Sounded n coun
   sounded-more h here =
       record {
         placed = placed-more counts n first j (s .placed) h;
-        rows = one-more (λ i. RowsSound n i (firstRow counts i) (getD counts i 0) table) j (s .rows) (rw (s .placed .starts) at here);
+        rows = below-more (λ i. RowsSound n i (firstRow counts i) (getD counts i 0) table) j (s .rows) (rw (s .placed .starts) at here);
       }
 
   pub sounded-end : n ≤ j → Between (first * 16) 4096 (λ i. getD table i 0 ≡ 0) → TableSound n counts table

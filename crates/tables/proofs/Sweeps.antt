@@ -1,20 +1,16 @@
 -- Turns of loops: of any loop, and of sweeps, which look at every place so that the compiler takes several at a time.
-use mathlib.Core.Path.{_≡_, sym, subst}
+use mathlib.Core.Path.{_≡_, subst}
 use mathlib.Core.Bool.{Bool, true}
 use Prim.Native.Nat.{ℕ, zero, suc, _+_, _≤_, _<_}
 use native.Mathlib.Numerals.{add-one}
-use native.Mathlib.Decide.{ℕ-discrete}
 use native.Mathlib.Omega.{arith}
+use Rattle.book.proofs.Loops.{below-more}
 use Rattle.tables.specs.Sound.{Between}
 
 -- what holds at first and is kept by every turn holds at the end
 pub turns : (P : ℕ → Type 0) (n : ℕ) → P 0 → ((k : ℕ) → k < n → P k → P (k + 1)) → P n
 turns P zero begun more = begun
 turns P (suc n) begun more = subst P (add-one n) (more n (omega arith) (turns P n begun (λ k h. more k (omega arith))))
-
--- one more place has a property
-pub one-more : (P : ℕ → Type 0) (i : ℕ) → ((k : ℕ) → k < i → P k) → P i → (k : ℕ) → k < i + 1 → P k
-one-more P i before here k h = elim (ℕ-discrete k i) [ yes e ↦ subst P (sym e) here | no e ↦ before k (omega arith) ]
 
 -- `still` is true only while every place before i has the property
 pub record Swept (P : ℕ → Type 0) (from to i : ℕ) (still : Bool) : Type 0 where
@@ -31,7 +27,7 @@ module _ (P : ℕ → Type 0) (from to i : ℕ) (still : Bool) (s : Swept P from
       record {
         begun = omega arith;
         passed = omega arith;
-        done = λ e k a b. one-more (λ m. from ≤ m → P m) i (λ m l g. s .done (test e .0) m g l) (λ g. test e .1) k b a;
+        done = λ e k a b. below-more (λ m. from ≤ m → P m) i (λ m l g. s .done (test e .0) m g l) (λ g. test e .1) k b a;
       }
 
   pub swept-end : to ≤ i → still ≡ true → Between from to P

@@ -15,7 +15,8 @@ ghost use Rattle.book.specs.InTurn.{answerTo};
 ghost use Rattle.book.specs.Questions.{allZero, unusedOf, unusedFrom, unusedZero};
 ghost use Rattle.book.specs.Along.{countersQuestion, processQuestion};
 ghost use Rattle.book.specs.Fits.{RowsFit, BookFits};
-ghost use Rattle.tables.specs.Before.{RowFits, entryBefore, countersBefore};
+ghost use Rattle.book.specs.Before.{countersBefore};
+ghost use Rattle.tables.specs.Before.{RowFits};
 ghost use Rattle.tables.specs.Sound.{Between, Known, Rising, RowsSound, TableSound, Passed};
 
 // All of question 5: the first count that fails it, 0 for none.
@@ -50,7 +51,7 @@ fn row_question(table: &[Counter], start: usize, n: usize, j: usize, oldest: boo
     while k < n - 1 {
         let at = start + book::column(j, k);
         let v = book::wide(table[at]);
-        let before = entry_before(table, at, oldest);
+        let before = book::entry_before(table, at, oldest);
         let question = book::counter_question(book::MARK, oldest, before, v);
         if question != 0 {
             return question;
@@ -58,19 +59,6 @@ fn row_question(table: &[Counter], start: usize, n: usize, j: usize, oldest: boo
         k += 1;
     }
     0
-}
-
-// The same counter one checkpoint before; before the oldest there is nothing to be lower than.
-fn entry_before(table: &[Counter], at: usize, oldest: bool) -> u64
-    requires { ⌜ (at < length (now table)) × (oldest ≡ false → 16 ≤ at) ⌝ }
-    ensures { λ r. ⌜ r ≡ entryBefore oldest at (now (table .entry)) ⌝ }
-{
-    if oldest {
-        0
-    } else {
-        let row_before = at - book::ROW_WIDTH;
-        book::wide(table[row_before])
-    }
 }
 
 // Questions 6 to 8 of the checkpoints of process j, whose first row is `first`.

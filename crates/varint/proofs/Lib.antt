@@ -1,9 +1,7 @@
 pub mod Bytes
 pub mod Encode
-pub mod KnownTurns
 pub mod ReadTurns
 pub mod Reading
 pub mod Sequence
 pub mod Theorems
-pub mod Wider
 pub mod WriteTurns

@@ -1,4 +1,4 @@
--- The loop that reads a number: what the groups so far make, joined to the number of the groups to come, is the whole.
+-- Reading a number group by group: what the groups so far make, joined to the number of the groups to come, is the whole.
 -- Assumes nothing.
 use mathlib.Core.Bool.{true, false}
 use mathlib.Core.Path.{_≡_, refl, sym, ap, _∙_}
@@ -12,18 +12,14 @@ use lib.ListN.{length, drop, getD, drop-of-length-le}
 use lib.Seq.{drop-cons}
 use lib.Dec.{eqb}
 use lib.Arith.{digits-lt}
-use lib.Bits.{bitAnd, bitOr, or-shifted-r}
+use lib.Bits.{bitAnd, bitOr, mask-lt, or-shifted-r}
 use lib.Pow.{pow-add, shl-exact}
 use Rattle.varint.specs.declared.Numeral.{Numeral}
 use Rattle.varint.specs.declared.Numeral.the-variants.{Number, Refused}
+use Rattle.varint.specs.Ending.{joined, Ending, endedBy}
 use Rattle.varint.specs.Number.{above, atMost, readGroups, readNumber}
 use Rattle.varint.proofs.Reading.{groups-none, groups-last, groups-more, last-some, at-most-in, at-most-over}
 use Rattle.varint.proofs.WriteTurns.{low-group}
-
--- a number above `shift` bits that make `value`
-abbrev joined : ℕ → ℕ → Numeral → Numeral
-joined value shift Refused = Refused
-joined value shift (Number high next) = Number (value + high * 2 ^ shift) next
 
 joined-none : (r : Numeral) → r ≡ joined 0 0 r
 joined-none Refused = refl
@@ -43,6 +39,36 @@ join-group : (value shift low : ℕ) → value < 2 ^ shift → low < 128 → shi
     → bitOr value (low * 2 ^ shift % 2 ^ 64) ≡ value + low * 2 ^ shift
 join-group value shift low h k m =
     rw (shl-exact {a = low} 7 shift 64 k (omega arith), or-shifted-r low shift value h) (omega arith)
+
+-- ---- the end of a number
+
+-- what is not zero is one at least
+pub not-zero : (b : ℕ) → (b ≡ 0 → ⊥) → 1 ≤ b
+not-zero zero f = absurd (f refl)
+not-zero (suc b) f = omega arith
+
+module _ (shift limit value b next : ℕ) where
+  -- a last group of zero after others
+  pub end-zero : b ≡ 0 → 0 < shift → Refused ≡ endedBy shift limit value b next
+  unfolding endedBy
+  end-zero z after = let first : eqb shift 0 ≡ false = ne-eqb shift 0 (λ e. omega arith) in rw (first, z)
+
+  module _ (e : Ending shift value b) (shortest : 0 < shift → 1 ≤ b) where
+    -- a last group makes the number, if the limit allows it
+    whole : endedBy shift limit value b next ≡ atMost limit (Number (bitOr value (b * 2 ^ shift % 2 ^ 64)) next)
+    unfolding endedBy
+    whole =
+        let some : eqb shift 0 ≡ false → 1 ≤ b = λ f. shortest (not-zero shift (eqb-false shift 0 f)) in
+        rw (last-some (eqb shift 0) b next some, join-group value shift b (e .small) (e .last) (e .bits))
+
+    pub end-over : limit < bitOr value (b * 2 ^ shift % 2 ^ 64) → Refused ≡ endedBy shift limit value b next
+    end-over over = sym (whole ∙ at-most-over limit (bitOr value (b * 2 ^ shift % 2 ^ 64)) next over)
+
+    pub end-in : bitOr value (b * 2 ^ shift % 2 ^ 64) ≤ limit
+        → Number (bitOr value (b * 2 ^ shift % 2 ^ 64)) next ≡ endedBy shift limit value b next
+    end-in under = sym (whole ∙ at-most-in limit (bitOr value (b * 2 ^ shift % 2 ^ 64)) next under)
+
+-- ---- the groups of a number
 
 -- after k groups, at place i: they make `value`, of `shift` bits
 pub record Sofar (s : List ℕ) (at groups value shift k i : ℕ) : Type 0 where
@@ -69,12 +95,12 @@ pub turn-long : (s : List ℕ) (at groups limit value shift k i : ℕ) → group
 unfolding readNumber readGroups
 turn-long s at groups limit value shift k i h r = let none : groups - k ≡ 0 = omega arith in rw (r .whole, none)
 
--- ---- a turn on a byte b
+-- no group has no bits
+first-group : (k : ℕ) → eqb k 0 ≡ eqb (7 * k) 0
+first-group zero = refl
+first-group (suc k) = rw (ne-eqb (suc k) 0 (λ e. omega arith), ne-eqb (7 * suc k) 0 (λ e. omega arith))
 
--- what is not zero is one at least
-pub not-zero : (b : ℕ) → (b ≡ 0 → ⊥) → 1 ≤ b
-not-zero zero f = absurd (f refl)
-not-zero (suc b) f = omega arith
+-- ---- a turn on a byte b
 
 module _ (s : List ℕ) (at groups value shift k i b : ℕ) (byte : b ≡ getD s i 0) (more : k < groups) (nine : groups ≤ 9)
     (inside : i < length s) (inv : Sofar s at groups value shift k i) where
@@ -85,29 +111,27 @@ module _ (s : List ℕ) (at groups value shift k i b : ℕ) (byte : b ≡ getD s
       let e : suc (groups - (k + 1)) ≡ groups - k = omega arith in
       rw (e, byte, add-one i, ← drop-cons s i 0 inside) (inv .whole)
 
-  -- a last group of zero after others
-  pub turn-zero : (limit : ℕ) → b ≡ 0 → 0 < k → Refused ≡ readNumber groups limit s at
-  unfolding readNumber
-  turn-zero limit z after =
-      let first : eqb k 0 ≡ false = ne-eqb k 0 (λ e. omega arith) in
-      rw (split, groups-last (groups - (k + 1)) (eqb k 0) b (drop (i + 1) s) i (omega arith), first, z)
+  -- a last group
+  pub turn-ending : b < 128 → Ending shift value b
+  turn-ending small = record { bits = omega (arith, inv .bits); small = inv .small; last = small }
 
-  -- a last group makes the number, if the limit allows it
-  last : (limit : ℕ) → b < 128 → (0 < k → 1 ≤ b)
-      → readNumber groups limit s at ≡ atMost limit (Number (bitOr value (b * 2 ^ shift % 2 ^ 64)) (i + 1))
-  unfolding readNumber
-  last limit small shortest =
-      let bits : shift + 7 ≤ 64 = omega (arith, inv .bits) in
-      let some : eqb k 0 ≡ false → 1 ≤ b = λ f. shortest (not-zero k (eqb-false k 0 f)) in
-      rw
-      (split, groups-last (groups - (k + 1)) (eqb k 0) b (drop (i + 1) s) i small, last-some (eqb k 0) b (i + 1) some, join-group value shift b (inv .small) small bits)
+  pub turn-ended : (limit : ℕ) → b < 128 → endedBy shift limit value b (i + 1) ≡ readNumber groups limit s at
+  unfolding readNumber endedBy
+  turn-ended limit small =
+      let same : eqb k 0 ≡ eqb shift 0 = rw (inv .bits) (first-group k) in
+      rw (split, groups-last (groups - (k + 1)) (eqb k 0) b (drop (i + 1) s) i small, same)
+
+  pub turn-zero : (limit : ℕ) → b ≡ 0 → 0 < k → Refused ≡ readNumber groups limit s at
+  turn-zero limit z after = end-zero shift limit value b (i + 1) z (omega (arith, inv .bits)) ∙ turn-ended limit (omega arith)
 
   pub turn-over : (limit : ℕ) → b < 128 → (0 < k → 1 ≤ b) → limit < bitOr value (b * 2 ^ shift % 2 ^ 64) → Refused ≡ readNumber groups limit s at
-  turn-over limit small shortest over = sym (last limit small shortest ∙ at-most-over limit (bitOr value (b * 2 ^ shift % 2 ^ 64)) (i + 1) over)
+  turn-over limit small shortest over =
+      end-over shift limit value b (i + 1) (turn-ending small) (λ h. shortest (omega (arith, inv .bits))) over ∙ turn-ended limit small
 
   pub turn-last : (limit : ℕ) → b < 128 → (0 < k → 1 ≤ b) → bitOr value (b * 2 ^ shift % 2 ^ 64) ≤ limit
       → Number (bitOr value (b * 2 ^ shift % 2 ^ 64)) (i + 1) ≡ readNumber groups limit s at
-  turn-last limit small shortest under = sym (last limit small shortest ∙ at-most-in limit (bitOr value (b * 2 ^ shift % 2 ^ 64)) (i + 1) under)
+  turn-last limit small shortest under =
+      end-in shift limit value b (i + 1) (turn-ending small) (λ h. shortest (omega (arith, inv .bits))) under ∙ turn-ended limit small
 
   -- a group that others follow
   pub turn-more : 128 ≤ b → b < 256 → Sofar s at groups (bitOr value (bitAnd b 127 * 2 ^ shift % 2 ^ 64)) (shift + 7) (k + 1) (i + 1)
@@ -126,4 +150,46 @@ module _ (s : List ℕ) (at groups value shift k i b : ℕ) (byte : b ≡ getD s
             (split
             ∙ ap (joined value shift) (groups-more (groups - (k + 1)) (eqb k 0) b (drop (i + 1) s) i big)
             ∙ joined-above value shift low (readGroups (groups - (k + 1)) false (drop (i + 1) s) (i + 1)));
+      }
+
+-- ---- five groups one after another, where five bytes are left
+
+-- after k of them
+pub record Five (s : List ℕ) (at value k : ℕ) : Type 0 where
+  pub sofar : Sofar s at 5 value (7 * k) k (at + k)
+  pub room : at + 5 ≤ length s
+
+module _ (s : List ℕ) (at b : ℕ) (byte : b ≡ getD s at 0) (room : at + 5 ≤ length s) where
+  pub five-begun : (limit : ℕ) → b < 128 → endedBy 0 limit 0 b (at + 1) ≡ readNumber 5 limit s at
+  five-begun = turn-ended s at 5 0 0 0 at b byte (omega arith) (omega arith) (omega arith) (sofar-begun s at 5)
+
+  -- the first group needs no shift
+  pub five-first : 128 ≤ b → b < 256 → Five s at (bitAnd b 127) 1
+  five-first big small =
+      let low : bitAnd b 127 * 1 % 18446744073709551616 ≡ bitAnd b 127 = omega (arith, mask-lt b 7) in
+      record {
+        sofar = rw low at (turn-more s at 5 0 0 0 at b byte (omega arith) (omega arith) (omega arith) (sofar-begun s at 5) big small);
+        room = room;
+      }
+
+module _ (s : List ℕ) (at value k b : ℕ) (byte : b ≡ getD s (at + k) 0) (more : k < 5) (inv : Five s at value k) where
+  inside : at + k < length s
+  inside = omega arith
+
+  next : at + k + 1 ≡ at + (k + 1)
+  next = omega arith
+
+  pub five-ending : b < 128 → Ending (7 * k) value b
+  five-ending = turn-ending s at 5 value (7 * k) k (at + k) b byte more (omega arith) inside (inv .sofar)
+
+  pub five-ended : (limit : ℕ) → b < 128 → endedBy (7 * k) limit value b (at + (k + 1)) ≡ readNumber 5 limit s at
+  five-ended limit small = rw (← next) (turn-ended s at 5 value (7 * k) k (at + k) b byte more (omega arith) inside (inv .sofar) limit small)
+
+  pub five-more : 128 ≤ b → b < 256 → Five s at (bitOr value (bitAnd b 127 * 2 ^ (7 * k) % 2 ^ 64)) (k + 1)
+  five-more big small =
+      let bits : 7 * (k + 1) ≡ 7 * k + 7 = omega arith in
+      record {
+        sofar = rw (bits, ← next)
+            (turn-more s at 5 value (7 * k) k (at + k) b byte more (omega arith) inside (inv .sofar) big small);
+        room = inv .room;
       }

@@ -1,3 +1,4 @@
+pub mod Ending
 pub mod Laws
 pub mod Number
 pub mod Sequence

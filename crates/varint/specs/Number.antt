@@ -44,12 +44,3 @@ atMost limit (Number v next) = elim (leb v limit) [ true ↦ Number v next | fal
 -- the number that stands at a place of the bytes: whole, shortest, in at most `groups` groups and at most `limit`
 unfoldable pub readNumber : ℕ → ℕ → List ℕ → ℕ → Numeral
 readNumber groups limit s at = atMost limit (readGroups groups true (drop at s) at)
-
--- the number that stands at a place, of any size that whole groups of a 64-bit number hold
-abbrev pub anyNumber : List ℕ → ℕ → Numeral
-anyNumber s at = readNumber 9 9223372036854775807 s at
-
--- a number stands there
-abbrev pub stands : Numeral → Type 0
-stands Refused = ⊥
-stands (Number v next) = Unit {0}

@@ -1,10 +1,11 @@
 // Seven-bit numbers (document 01, "The book"): groups of seven bits, lowest group first, one group a byte; the
 // byte's top bit is set when another group follows. Only the shortest form is a number.
 ghost use mathlib.Core.Path.{_≡_};
-ghost use Prim.Native.Nat.{_+_, _≤_};
+ghost use Prim.Native.Nat.{_+_, _≤_, _<_};
 ghost use lib.Seq.{sets};
 ghost use lib.ListN.{length};
-ghost use Rattle.varint.specs.Number.{encode, readNumber, anyNumber, stands};
+ghost use Rattle.varint.specs.Ending.{Ending, endedBy};
+ghost use Rattle.varint.specs.Number.{encode, readNumber};
 ghost use Rattle.varint.specs.Write.{placeAfter, bytesAfter};
 
 // What stands at a place.
@@ -15,12 +16,6 @@ pub enum Numeral {
     Refused,
 }
 
-// A number that was found, and the place after it.
-pub struct Found {
-    pub value: u64,
-    pub next: usize,
-}
-
 // The place after a number that was written.
 pub enum Written {
     Next(usize),
@@ -29,7 +24,7 @@ pub enum Written {
 }
 
 fn wide(b: u8) -> u64
-    ensures { λ r. ⌜ r ≡ b ⌝ }
+    ensures { λ r. ⌜ (r ≡ b) × (r < 256) ⌝ }
 {
     b as u64
 }
@@ -66,25 +61,62 @@ pub fn read_number(s: &[u8], at: usize, groups: u32, limit: u64) -> Numeral
     Numeral::Refused
 }
 
-// The number at a place where one is known to stand: nothing is asked again.
-pub fn number_at(s: &[u8], at: usize) -> Found
-    requires { ⌜ stands (anyNumber (now s) at) ⌝ }
-    ensures { λ r. ⌜ Numeral.Number (r .value) (r .next) ≡ anyNumber (now (s .entry)) at ⌝ }
+// The last group, above `shift` bits that make `value`: not zero where groups went before, and the number within the limit.
+// `read_number` says it for itself: with a call here its loop compiles to more instructions.
+fn ended(shift: u32, limit: u64, value: u64, b: u64, next: usize) -> Numeral
+    requires { ⌜ Ending shift value b ⌝ }
+    ensures { λ r. ⌜ r ≡ endedBy shift limit value b next ⌝ }
 {
-    let mut known: u64 = 0;
-    let mut bits: u32 = 0;
-    let mut i = at;
-    let mut b = wide(s[i]);
-    while 128 <= b {
-        known = known | ((b & 127) << bits);
-        bits += 7;
-        i += 1;
-        b = wide(s[i]);
+    if b == 0 && 0 < shift {
+        return Numeral::Refused;
     }
-    Found {
-        value: known | (b << bits),
-        next: i + 1,
+    let v = value | (b << shift);
+    if limit < v {
+        return Numeral::Refused;
     }
+    Numeral::Number(v, next)
+}
+
+// A number of at most five groups, where five bytes are left: `read_number` without its loop, for readers of many numbers.
+fn read_five(s: &[u8], at: usize, limit: u64) -> Numeral
+    requires { ⌜ at + 5 ≤ length (now s) ⌝ }
+    ensures { λ r. ⌜ r ≡ readNumber 5 limit (now (s .entry)) at ⌝ }
+{
+    let b0 = wide(s[at]);
+    if b0 < 128 {
+        return ended(0, limit, 0, b0, at + 1);
+    }
+    let v0 = b0 & 127;
+    let b1 = wide(s[at + 1]);
+    if b1 < 128 {
+        return ended(7, limit, v0, b1, at + 2);
+    }
+    let v1 = v0 | ((b1 & 127) << 7);
+    let b2 = wide(s[at + 2]);
+    if b2 < 128 {
+        return ended(14, limit, v1, b2, at + 3);
+    }
+    let v2 = v1 | ((b2 & 127) << 14);
+    let b3 = wide(s[at + 3]);
+    if b3 < 128 {
+        return ended(21, limit, v2, b3, at + 4);
+    }
+    let v3 = v2 | ((b3 & 127) << 21);
+    let b4 = wide(s[at + 4]);
+    if b4 < 128 {
+        return ended(28, limit, v3, b4, at + 5);
+    }
+    Numeral::Refused
+}
+
+// The number at a place, in at most five groups and at most `limit`.
+pub fn read_short(s: &[u8], at: usize, limit: u64) -> Numeral
+    ensures { λ r. ⌜ r ≡ readNumber 5 limit (now (s .entry)) at ⌝ }
+{
+    if 5 <= s.len() && at <= s.len() - 5 {
+        return read_five(s, at, limit);
+    }
+    read_number(s, at, 5, limit)
 }
 
 // How many bytes a number takes.

@@ -1,12 +1,11 @@
--- `reader::read` meets its contract: the checking pass decides, and only an accepted book is filled in.
-use mathlib.Core.Path.{sym, _∙_}
+-- `reader::read` meets its contract: the pass decides, and has filled the tables of an accepted book.
 use borrow.Author.Needs.{needs}
-use Rattle.reader.proofs.ReadTurns.{read-refused, read-accepted}
+use Rattle.reader.proofs.ReadTurns.{answer-no, answer-yes}
 use Rattle.reader.proofs.read.Statement.{statement}
 use Rattle.reader.proofs.read.Tie as tie
 
-check-requires : tie.Need-check-requires
-check-requires c κs = search needs
+take-requires : tie.Need-take-requires
+take-requires c κs = search needs
 
 same-length : tie.Need-same-length
 same-length c = search needs
@@ -16,13 +15,8 @@ same-length-2 c = search needs
 
 returns : tie.Need-returns
 returns c =
-    let at-check = c .before .before .before in
-    let at-start = at-check .before .before .before .before .before .before in
-    let a = at-start .args in
-    read-refused (a .bytes .now) (a .sent .now) (a .received .now) _ _ (at-check .check .ensures .0) (c .if1 .taken) (at-check .check .ensures .1)
-
-fill-requires : tie.Need-fill-requires
-fill-requires c κs = search needs
+    let did = c .before .before .before .before .before .before .before .take .ensures in
+    (answer-no _ _ _ _ _ _ did (c .if1 .taken), (did .shaped, (did .sentLeft, did .receivedLeft)))
 
 same-length-3 : tie.Need-same-length-3
 same-length-3 c = search needs
@@ -32,24 +26,17 @@ same-length-4 c = search needs
 
 returns-2 : tie.Need-returns-2
 returns-2 c =
-    let at-fill = c .before .before .before .before in
-    let at-if1 = at-fill .before .before .before in
-    let at-check = at-if1 .before .before .before in
-    let at-start = at-check .before .before .before .before .before .before in
-    let a = at-start .args in
-    read-accepted (a .bytes .now) (a .sent .now) (a .received .now) _ _ _ (sym (at-check .check .ensures .0) ∙ at-if1 .if1 .left)
-    (at-check .check .ensures .1) (at-fill .fill .ensures .0)
-    (at-fill .fill .ensures .1)
+    let did = c .before .before .before .before .before .before .before .take .ensures in
+    (answer-yes _ _ _ _ _ _ did (c .if1 .left), (did .shaped, (did .sentLeft, did .receivedLeft)))
 
 pub read-spec : {M : Type 1} → statement M
 read-spec =
     tie.close
     (tie.spec
-    check-requires
+    take-requires
     same-length
     same-length-2
     returns
-    fill-requires
     same-length-3
     same-length-4
     returns-2)

@@ -8,7 +8,7 @@ use Rattle.book.specs.Bounds.{mark}
 use Rattle.book.specs.Tables.{others, column}
 use Rattle.book.specs.Questions.{counterQuestion}
 use Rattle.book.specs.Along.{countersQuestion}
-use Rattle.tables.specs.Before.{entryBefore, countersBefore}
+use Rattle.book.specs.Before.{entryBefore, countersBefore}
 use Rattle.book.proofs.Rows.{column-within}
 use Rattle.tables.proofs.RowTurns.{Asked, asked-fail, asked-more, asked-end}
 use Rattle.tables.proofs.row_question.Statement.{statement}

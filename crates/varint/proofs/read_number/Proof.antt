@@ -29,7 +29,7 @@ wide-requires c κs = tt
 
 returns-2 : tie.Need-returns-2 Inv-loop μ-loop
 returns-2 c =
-    turn-zero _ _ _ _ _ _ _ _ (c .before .before .before .wide .ensures) (omega arith)
+    turn-zero _ _ _ _ _ _ _ _ (c .before .before .before .wide .ensures .0) (omega arith)
     (c .before .before .before .before .before .before .before .before .before .pre) (omega arith)
     (c .before .before .before .before .before .before .before .loop .inv) _ (c .before .if3 .taken) (omega (arith, ltb-true))
 
@@ -41,7 +41,7 @@ shl-v c = omega arith
 
 returns-3 : tie.Need-returns-3 Inv-loop μ-loop
 returns-3 c =
-    turn-over _ _ _ _ _ _ _ _ (c .before .before .before .wide .ensures) (omega arith)
+    turn-over _ _ _ _ _ _ _ _ (c .before .before .before .wide .ensures .0) (omega arith)
     (c .before .before .before .before .before .before .before .before .before .pre) (omega arith)
     (c .before .before .before .before .before .before .before .loop .inv) _ (c .before .before .if2 .taken)
     (⊎-elim (λ w h. omega (arith, ltb-false)) (λ w h. not-zero _ (w .left)) (c .before .if3 .came)) (omega arith)
@@ -51,7 +51,7 @@ add-t20 c = omega arith
 
 returns-4 : tie.Need-returns-4 Inv-loop μ-loop
 returns-4 c =
-    turn-last _ _ _ _ _ _ _ _ (c .before .before .before .wide .ensures) (omega arith)
+    turn-last _ _ _ _ _ _ _ _ (c .before .before .before .wide .ensures .0) (omega arith)
     (c .before .before .before .before .before .before .before .before .before .pre) (omega arith)
     (c .before .before .before .before .before .before .before .loop .inv) _ (c .before .before .if2 .taken)
     (⊎-elim (λ w h. omega (arith, ltb-false)) (λ w h. not-zero _ (w .left)) (c .before .if3 .came)) (omega arith)
@@ -76,9 +76,9 @@ loop-less c = omega arith
 
 loop-again : tie.Need-loop-again Inv-loop μ-loop
 loop-again c =
-    turn-more _ _ _ _ _ _ _ _ (c .before .wide .ensures) (omega arith)
+    turn-more _ _ _ _ _ _ _ _ (c .before .wide .ensures .0) (omega arith)
     (c .before .before .before .before .before .before .before .pre) (omega arith) (c .before .before .before .before .before .loop .inv)
-    (c .if2 .left) (omega (arith, c .before .before .shared-slice-known2 .given (c .before .before .before .before .before .loop .i)))
+    (c .if2 .left) (c .before .wide .ensures .1)
 
 returns-5 : tie.Need-returns-5 Inv-loop μ-loop
 returns-5 c = turn-long _ _ _ _ _ _ _ _ (c .loop-test .left) (c .before .loop .inv)

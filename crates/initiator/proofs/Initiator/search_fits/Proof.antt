@@ -16,9 +16,6 @@ own c = let a = c .args in ownOf (a .rows .shape) (a .sent .now) (a .received .n
 kept-matrix-requires : tie.Need-kept-matrix-requires
 kept-matrix-requires c κs = search needs
 
-sub-place : tie.Need-sub-place
-sub-place c = search needs
-
 row-requires : tie.Need-row-requires
 row-requires c κs = search needs
 
@@ -29,34 +26,28 @@ same-requires : tie.Need-same-requires
 same-requires c κs = search needs
 
 -- the row that the state holds against the candidate's
-row-told : (c : tie.After-same) → let at = c .before .before .before .before .before .before .before .before .before .before .before .before in
+row-told : (c : tie.After-same) → let at = c .before .before .before .before .before .before .before .before .before in
     same (row (at .args .self .matrix) (at .args .self .me .0 - 1)) (sentRow (own at) (at .args .self .candidate .0)) ≡ c .same .result
 row-told c = sym (c .same .ensures ∙ (λ i. same (c .before .before .row .ensures i) (c .before .sent-row .ensures i)))
 
 returns : tie.Need-returns
 returns c =
-    let at = c .before .before .before .before .before .before .before .before .before .before .before .before .before in
+    let at = c .before .before .before .before .before .before .before .before .before .before in
     sym (search-row (own at) (at .args .self) (row-told (c .before) ∙ not-true (c .before .same .result) (c .if1 .taken)))
 
 column-requires : tie.Need-column-requires
 column-requires c κs = search needs
 
-mul-t18 : tie.Need-mul-t18
-mul-t18 c = search needs
-
-array-read-t21 : tie.Need-array-read-t21
-array-read-t21 c = search needs
-
-newest-permitted-requires : tie.Need-newest-permitted-requires
-newest-permitted-requires c κs = search needs
+newest-near-requires : tie.Need-newest-near-requires
+newest-near-requires c κs = search needs
 
 returns-2 : tie.Need-returns-2
 returns-2 c =
     let asked = c .before .before .before .before in
-    let at = asked .before .before .before .before .before .before .before .before .before .before .before .before .before in
-    let kept = asked .before .before .before .before .before .before .before .kept-matrix in
+    let at = asked .before .before .before .before .before .before .before .before .before .before in
+    let kept = asked .before .before .before .before .kept-matrix in
     let known = c .before .before .before .column in
-    let newest = c .before .before .newest-permitted in
+    let newest = c .before .before .newest-near in
     sym (search-newest (own at) (at .args .self) (kept .result) (known .result) (newest .result .0) (kept .ensures) (known .ensures) (newest .ensures)
     (row-told (asked .before) ∙ not-false (asked .before .same .result) (asked .if1 .left)))
 
@@ -65,13 +56,10 @@ search-fits-spec =
     tie.close
     (tie.spec
     kept-matrix-requires
-    sub-place
     row-requires
     sent-row-requires
     same-requires
     returns
     column-requires
-    mul-t18
-    array-read-t21
-    newest-permitted-requires
+    newest-near-requires
     returns-2)

@@ -7,27 +7,18 @@ use Rattle.initiator.proofs.Steps.{back-is}
 use Rattle.initiator.proofs.Initiator.step_back.Statement.{statement}
 use Rattle.initiator.proofs.Initiator.step_back.Tie as tie
 
-sub-place : tie.Need-sub-place
-sub-place c = search needs
-
 column-requires : tie.Need-column-requires
 column-requires c κs = search needs
 
-mul-t16 : tie.Need-mul-t16
-mul-t16 c = search needs
-
-array-read-t19 : tie.Need-array-read-t19
-array-read-t19 c = search needs
-
-newest-permitted-requires : tie.Need-newest-permitted-requires
-newest-permitted-requires c κs = search needs
+newest-near-requires : tie.Need-newest-near-requires
+newest-near-requires c κs = search needs
 
 sent-row-requires : tie.Need-sent-row-requires
 sent-row-requires c κs =
-    let at = c .before .before .before .before .before .before .before .before .before .before .before in
+    let at = c .before .before .before .before .before .before .before .before .before in
     let a = at .args in
     let given = at .pre in
-    let newest = c .newest-permitted in (
+    let newest = c .newest-near in (
       (given .in-sent, given .present),
       newest-there (a .rows) (a .sent .now) (a .received .now) (a .self .me .0) (c .before .column .result) (newest .result .0) given (newest .ensures),
     )
@@ -37,9 +28,9 @@ with-row-requires c κs = search needs
 
 returns : tie.Need-returns
 returns c =
-    let a = c .before .before .before .before .before .before .before .before .before .before .before .before .before .args in
+    let a = c .before .before .before .before .before .before .before .before .before .before .before .args in
     let known = c .before .before .before .column in
-    let newest = c .before .before .newest-permitted in
+    let newest = c .before .before .newest-near in
     let row = c .before .sent-row in
     back-is (ownOf (a .rows .shape) (a .sent .now) (a .received .now) (a .self .me .0 - 1)) (a .self) (known .result) (newest .result) (row .result)
     (c .with-row .result)
@@ -51,12 +42,4 @@ returns c =
 pub step-back-spec : {M : Type 1} → statement M
 step-back-spec =
     tie.close
-    (tie.spec
-    sub-place
-    column-requires
-    mul-t16
-    array-read-t19
-    newest-permitted-requires
-    sent-row-requires
-    with-row-requires
-    returns)
+    (tie.spec column-requires newest-near-requires sent-row-requires with-row-requires returns)

@@ -14,52 +14,34 @@ use Rattle.participant.proofs.Participant.search_fits.Tie as tie
 abbrev own : tie.Start → Own
 own c = let a = c .args in ownOf (a .rows .shape) (a .sent .now) (a .received .now) (a .self .me .0 - 1)
 
-sub-place : tie.Need-sub-place
-sub-place c = search needs
-
 sent-row-requires : tie.Need-sent-row-requires
 sent-row-requires c κs = search needs
 
 same-requires : tie.Need-same-requires
 same-requires c κs = search needs
 
-row-told : (c : tie.After-same) → let at = c .before .before .before .before .before .before .before .before .before .before .before in
+row-told : (c : tie.After-same) → let at = c .before .before .before .before .before .before .before .before in
     same (at .args .self .row) (sentRow (own at) (at .args .self .candidate .0)) ≡ c .same .result
 row-told c =
-    let at = c .before .before .before .before .before .before .before .before .before .before .before in
+    let at = c .before .before .before .before .before .before .before .before in
     subst (λ (l : List Count). same (at .args .self .row) l ≡ c .same .result) (c .before .sent-row .ensures) (sym (c .same .ensures))
 
 returns : tie.Need-returns
 returns c =
-    let at = c .before .before .before .before .before .before .before .before .before .before .before .before in
+    let at = c .before .before .before .before .before .before .before .before .before in
     sym (search-row (own at) (at .args .self) (row-told (c .before) ∙ not-true (c .before .same .result) (c .if1 .taken)))
 
-mul-t16 : tie.Need-mul-t16
-mul-t16 c = search needs
-
-array-read-t19 : tie.Need-array-read-t19
-array-read-t19 c = search needs
-
-newest-permitted-requires : tie.Need-newest-permitted-requires
-newest-permitted-requires c κs = search needs
+newest-near-requires : tie.Need-newest-near-requires
+newest-near-requires c κs = search needs
 
 returns-2 : tie.Need-returns-2
 returns-2 c =
-    let at = c .before .before .before .before .before .before .before .before .before .before .before .before .before .before .before in
+    let at = c .before .before .before .before .before .before .before .before .before .before .before .before in
     let asked = c .before .before .before in
-    let newest = c .before .before .newest-permitted in
+    let newest = c .before .before .newest-near in
     sym (search-newest (own at) (at .args .self) (newest .result .0) (newest .ensures)
     (row-told (asked .before) ∙ not-false (asked .before .same .result) (asked .if1 .left)))
 
 pub search-fits-spec : {M : Type 1} → statement M
 search-fits-spec =
-    tie.close
-    (tie.spec
-    sub-place
-    sent-row-requires
-    same-requires
-    returns
-    mul-t16
-    array-read-t19
-    newest-permitted-requires
-    returns-2)
+    tie.close (tie.spec sent-row-requires same-requires returns newest-near-requires returns-2)

@@ -7,36 +7,27 @@ use Rattle.participant.proofs.Steps.{back-is}
 use Rattle.participant.proofs.Participant.step_back.Statement.{statement}
 use Rattle.participant.proofs.Participant.step_back.Tie as tie
 
-sub-place : tie.Need-sub-place
-sub-place c = search needs
-
 patch-requires : tie.Need-patch-requires
 patch-requires c κs = search needs
 
-mul-t16 : tie.Need-mul-t16
-mul-t16 c = search needs
-
-array-read-t19 : tie.Need-array-read-t19
-array-read-t19 c = search needs
-
-newest-permitted-requires : tie.Need-newest-permitted-requires
-newest-permitted-requires c κs = search needs
+newest-near-requires : tie.Need-newest-near-requires
+newest-near-requires c κs = search needs
 
 sent-row-requires : tie.Need-sent-row-requires
 sent-row-requires c κs =
-    let at = c .before .before .before .before .before .before .before .before .before .before .before in
+    let at = c .before .before .before .before .before .before .before .before .before in
     let a = at .args in
     let given = at .pre in
-    let newest = c .newest-permitted in (
+    let newest = c .newest-near in (
       (given .in-sent, given .present),
       newest-there (a .rows) (a .sent .now) (a .received .now) (a .self .me .0) (c .before .patch .result) (newest .result .0) given (newest .ensures),
     )
 
 returns : tie.Need-returns
 returns c =
-    let a = c .before .before .before .before .before .before .before .before .before .before .before .before .args in
+    let a = c .before .before .before .before .before .before .before .before .before .before .args in
     let known = c .before .before .patch in
-    let newest = c .before .newest-permitted in
+    let newest = c .before .newest-near in
     back-is (ownOf (a .rows .shape) (a .sent .now) (a .received .now) (a .self .me .0 - 1)) (a .self) (a .message) (known .result)
     (newest .result)
     (c .sent-row .result)
@@ -45,13 +36,4 @@ returns c =
     (c .sent-row .ensures)
 
 pub step-back-spec : {M : Type 1} → statement M
-step-back-spec =
-    tie.close
-    (tie.spec
-    sub-place
-    patch-requires
-    mul-t16
-    array-read-t19
-    newest-permitted-requires
-    sent-row-requires
-    returns)
+step-back-spec = tie.close (tie.spec patch-requires newest-near-requires sent-row-requires returns)

@@ -6,7 +6,7 @@ use native.Mathlib.Omega.{arith}
 use borrow.Author.Tests.{not-true, not-false}
 use borrow.Author.Needs.{needs}
 use Rattle.line_theory.proofs.Over.{all-out, all-not}
-use Rattle.consistency.proofs.Fills.{below-more}
+use Rattle.book.proofs.Loops.{below-more}
 use Rattle.words.specs.Session.{placeStart, placesDecode}
 use Rattle.words.specs.Participant.{participantDecodes}
 use Rattle.state_words.proofs.sessions.places_decode.Statement.{statement}
