@@ -82,7 +82,7 @@ extern "C" {
 #define RECOVERY_LINE_STRAND_BYTES(n) (((n) - 1) * RECOVERY_LINE_MESSAGE_BYTES(n))
 
 /* The stack that suffices for every call: a quarter more than the most that was measured, rounded up. */
-#define RECOVERY_LINE_STACK_BYTES 81920
+#define RECOVERY_LINE_STACK_BYTES 77824
 
 /* A counter that is not known, in a state's rows, columns and matrices; never in tables or messages. */
 #define RECOVERY_LINE_NOT_KNOWN 4294967295u
@@ -98,7 +98,7 @@ extern "C" {
 
 /* Reads a checkpoint book: its counters into the two tables, every entry of both, and its shape.
  * Questions: 1, 2, then along the book, number by number, 3 to 9.
- * Stack: 1024 bytes. */
+ * Stack: 33792 bytes. */
 uint32_t recovery_line_read(const uint8_t *bytes, size_t bytes_len, uint64_t *shape, size_t shape_len, uint32_t *sent,
                             size_t sent_len, uint32_t *received, size_t received_len);
 
@@ -111,7 +111,7 @@ uint32_t recovery_line_check(const uint64_t *shape, size_t shape_len, const uint
 /* Writes the book of the tables to the start of `out`, and its length; the bytes after it stay. RECOVERY_LINE_BOOK_BYTES
  * bytes always suffice.
  * Questions: the tables', 17.
- * Stack: 1024 bytes. */
+ * Stack: 5120 bytes. */
 uint32_t recovery_line_write(const uint64_t *shape, size_t shape_len, const uint32_t *sent, size_t sent_len,
                              const uint32_t *received, size_t received_len, uint8_t *out, size_t out_len,
                              uint64_t *length);
@@ -134,7 +134,7 @@ uint32_t recovery_line_find(const uint64_t *shape, size_t shape_len, const uint3
 /* Makes a participant's first state, before its invitation. Beyond the check, the calls of the machines go by n and the rows of
  * their own process: who has no others lends one checkpoint of zeros for each other process.
  * Questions: the tables', 10, 11.
- * Stack: 1024 bytes. */
+ * Stack: 2048 bytes. */
 uint32_t recovery_line_participant_first(const uint64_t *shape, size_t shape_len, const uint32_t *sent, size_t sent_len,
                                          const uint32_t *received, size_t received_len, uint64_t me,
                                          uint64_t initiator, uint64_t purpose, uint64_t *state, size_t state_len);
@@ -152,7 +152,7 @@ uint32_t recovery_line_participant_receive(uint64_t *state, size_t state_len, co
  * `out`, one after another, rising by receiver, with the length for each process. RECOVERY_LINE_STRAND_BYTES(n) bytes always
  * suffice.
  * Questions: the tables', 10, 11, 17.
- * Stack: 13312 bytes. */
+ * Stack: 12288 bytes. */
 uint32_t recovery_line_initiator_begin(const uint64_t *shape, size_t shape_len, const uint32_t *sent, size_t sent_len,
                                        const uint32_t *received, size_t received_len, uint64_t me, uint64_t purpose,
                                        uint64_t *state, size_t state_len, uint8_t *out, size_t out_len,
@@ -161,7 +161,7 @@ uint32_t recovery_line_initiator_begin(const uint64_t *shape, size_t shape_len, 
 /* An initiator receives a report: its state after the step, and what it sends (nothing, polls or terminations) as
  * `recovery_line_initiator_begin` writes invitations. RECOVERY_LINE_STRAND_BYTES(n) bytes always suffice.
  * Questions: the tables', 10, 11, 13, 14, 15, 16, 17.
- * Stack: 26624 bytes. */
+ * Stack: 21504 bytes. */
 uint32_t recovery_line_initiator_receive(uint64_t *state, size_t state_len, const uint64_t *shape, size_t shape_len,
                                          const uint32_t *sent, size_t sent_len, const uint32_t *received,
                                          size_t received_len, const uint8_t *message, size_t message_len, uint8_t *out,
@@ -171,7 +171,7 @@ uint32_t recovery_line_initiator_receive(uint64_t *state, size_t state_len, cons
  * `strands`: RECOVERY_LINE_MESSAGE_BYTES(n) bytes for each participant, in rising order, none for the initiator; every other
  * byte stays. RECOVERY_LINE_STRAND_BYTES(n) bytes always suffice.
  * Questions: the tables', 10, 11, 17.
- * Stack: 40960 bytes. */
+ * Stack: 39936 bytes. */
 uint32_t recovery_line_session_start(const uint64_t *shape, size_t shape_len, const uint32_t *sent, size_t sent_len,
                                      const uint32_t *received, size_t received_len, uint64_t initiator,
                                      uint64_t purpose, uint64_t *session, size_t session_len, uint8_t *strands,
@@ -180,7 +180,7 @@ uint32_t recovery_line_session_start(const uint64_t *shape, size_t shape_len, co
 /* A turn: the message that waits on process p's strand is delivered, and the replies wait then. Session, strands and tables are
  * as the start or the turn before left them. RECOVERY_LINE_STRAND_BYTES(n) bytes always suffice.
  * Questions: the tables', 10, 11, 13, 17, 18.
- * Stack: 63488 bytes. */
+ * Stack: 60416 bytes. */
 uint32_t recovery_line_session_turn(uint64_t *session, size_t session_len, const uint64_t *shape, size_t shape_len,
                                     const uint32_t *sent, size_t sent_len, const uint32_t *received,
                                     size_t received_len, uint64_t p, uint8_t *strands, size_t strands_len);
@@ -188,20 +188,20 @@ uint32_t recovery_line_session_turn(uint64_t *session, size_t session_len, const
 /* A search from its start to its end, lowest waiting strand first: where everybody has ended (the line; with purpose 2
  * checkpoint 1), how many checkpoints are newer, and the rounds and messages that it took.
  * Questions: the tables', 10, 11.
- * Stack: 54272 bytes. */
+ * Stack: 51200 bytes. */
 uint32_t recovery_line_search(const uint64_t *shape, size_t shape_len, const uint32_t *sent, size_t sent_len,
                               const uint32_t *received, size_t received_len, uint64_t initiator, uint64_t purpose,
                               uint64_t *line, size_t line_len, uint64_t *passed, uint64_t *rounds, uint64_t *messages);
 
 /* Moves the line in the tables, every entry of both, with their shape, and gives the restart order.
  * Questions: the tables', 11.
- * Stack: 14336 bytes. */
+ * Stack: 13312 bytes. */
 uint32_t recovery_line_move(uint64_t *shape, size_t shape_len, uint32_t *sent, size_t sent_len, uint32_t *received,
                             size_t received_len, uint64_t purpose, uint64_t *order, size_t order_len);
 
 /* Gives the restart order that `recovery_line_move` would give, and moves nothing.
  * Questions: the tables', 11.
- * Stack: 14336 bytes. */
+ * Stack: 13312 bytes. */
 uint32_t recovery_line_restart_order(const uint64_t *shape, size_t shape_len, const uint32_t *sent, size_t sent_len,
                                      const uint32_t *received, size_t received_len, uint64_t purpose, uint64_t *order,
                                      size_t order_len);

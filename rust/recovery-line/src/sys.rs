@@ -42,7 +42,7 @@ pub const fn RECOVERY_LINE_STRAND_BYTES(n: usize) -> usize {
 }
 
 /// The stack that suffices for every call.
-pub const RECOVERY_LINE_STACK_BYTES: usize = 81920;
+pub const RECOVERY_LINE_STACK_BYTES: usize = 77824;
 /// A counter that is not known.
 pub const RECOVERY_LINE_NOT_KNOWN: u32 = 4294967295;
 
