@@ -22,7 +22,7 @@ allNotKnown n matrix = allTo mostProcesses (λ j. same (row matrix j) (notKnownR
 unfoldable pub allNoneAbove : List Count → List Count → Bool
 allNoneAbove matrix copy = allTo mostProcesses (λ j. noneAbove (row matrix j) (row copy j))
 
--- "whose column differs from the copy": for each process, whether its does
+-- "whose column differs from the copy": whether it does, for each process
 unfoldable pub columnsDiffer : List Count → List Count → List Bool
 columnsDiffer matrix copy = tab mostProcesses (λ p. not (same (column matrix p) (column copy p)))
 

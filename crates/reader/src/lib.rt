@@ -73,8 +73,8 @@ fn sizes_question(bytes: usize, sent: usize, received: usize) -> u32
     0
 }
 
-// One row of process j: questions 3 and 6 to 8 of its counters, each put into its column. The bounds are constants, so that
-// the compiler unrolls the loop along a number's groups.
+// One row of process j: questions 3 and 6 to 8 of its counters, each put into its column. Books are mostly counters: these are
+// read by the function that has no loop.
 fn take_counters(
     s: &[u8],
     at: usize,

@@ -19,7 +19,7 @@ use Rattle.book.proofs.Asked.{counters-front}
 use Rattle.book.proofs.Questions.{then-assoc}
 use Rattle.book.proofs.Rows.{counters-append}
 use Rattle.book.specs.Before.{countersBefore}
-use Rattle.tables.specs.Before.{RowFits}
+use Rattle.tables.specs.Row.{RowFits}
 use Rattle.tables.proofs.Answers.{answer-fails, answer-passes}
 use Rattle.tables.proofs.RowTurns.{length-row, length-before}
 

@@ -14,7 +14,7 @@ use Rattle.book.specs.Questions.{counterQuestion}
 use Rattle.book.specs.Along.{countersQuestion}
 use Rattle.book.proofs.Rows.{length-others, getD-others}
 use Rattle.book.proofs.Before as rows-before
-use Rattle.tables.specs.Before.{RowFits}
+use Rattle.tables.specs.Row.{RowFits}
 use Rattle.tables.proofs.Answers.{answer-fails, answer-passes}
 
 -- the questions of counters, one more of them on each side

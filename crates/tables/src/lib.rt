@@ -16,7 +16,7 @@ ghost use Rattle.book.specs.Questions.{allZero, unusedOf, unusedFrom, unusedZer
 ghost use Rattle.book.specs.Along.{countersQuestion, processQuestion};
 ghost use Rattle.book.specs.Fits.{RowsFit, BookFits};
 ghost use Rattle.book.specs.Before.{countersBefore};
-ghost use Rattle.tables.specs.Before.{RowFits};
+ghost use Rattle.tables.specs.Row.{RowFits};
 ghost use Rattle.tables.specs.Sound.{Between, Known, Rising, RowsSound, TableSound, Passed};
 
 // All of question 5: the first count that fails it, 0 for none.
