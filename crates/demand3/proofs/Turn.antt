@@ -162,7 +162,7 @@ module _ (g : Search) (is : IsSearch g) (o : Ongoing) (p : Process) (box : ℕ �
   pub unnamed : isNamedPart g p ≡ false → questionOf g o p ≡ 10
   unfolding turnQuestion
   unnamed none =
-      not-named (tablesQuestion (g .shape) (g .sent) (g .received)) name (sessionPurposes (size g) s) fit roomAsked (waitsOn s k) (is .accepted)
+      not-named (tablesQuestion (g .shape) (g .sent) (g .received)) name (sessionPurposes s) fit roomAsked (waitsOn s k) (is .accepted)
       (rw (same-name, none))
 
   module _ (named : isNamedPart g p ≡ true) where
@@ -177,7 +177,7 @@ module _ (g : Search) (is : IsSearch g) (o : Ongoing) (p : Process) (box : ℕ �
     questions : questionOf g o p ≡ (ask 17 room then λ _. ask 18 (waitsOn s k))
     unfolding turnQuestion
     questions =
-        passed (tablesQuestion (g .shape) (g .sent) (g .received)) name (sessionPurposes (size g) s) fit roomAsked (waitsOn s k)
+        passed (tablesQuestion (g .shape) (g .sent) (g .received)) name (sessionPurposes s) fit roomAsked (waitsOn s k)
         (is .accepted)
         (both-and (participantNamed (size g) (p .0) (s .initiator .0)) (sessionNamed (size g) s) (same-name ∙ named)
         (before .passes .named))

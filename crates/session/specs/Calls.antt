@@ -67,7 +67,7 @@ unfoldable pub turnQuestion : Shape → List ℕ → List ℕ → Session → Pr
 turnQuestion shape sent received session p strands =
     tablesQuestion shape sent received
     then λ _. ask 10 (participantNamed (shape .n) (p .0) (session .initiator .0) && sessionNamed (shape .n) session)
-    then λ _. ask 11 (sessionPurposes (shape .n) session)
+    then λ _. ask 11 (sessionPurposes session)
     then λ _. ask 13 (sessionFits shape sent received session strands)
     then λ _. ask 17
     (haveRoom (shape .n) (initiatorOf session) (turned shape sent received session p strands .outgoing) strands)

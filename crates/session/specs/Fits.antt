@@ -24,26 +24,44 @@ use Rattle.session.specs.declared.Waiting.{Waiting}
 use Rattle.session.specs.Workers.{initiatorOf, participantAt, isEnded}
 use Rattle.session.specs.Held.{waitingBytes, held, isAwaited, isEnding, isStray}
 
--- ---- 10 and 11
+-- ---- empty places
 
--- at each participant's place something holds
-abbrev pub atParticipants : ℕ → ℕ → (ℕ → Bool) → Bool
-atParticipants n initiator f = allTo mostProcesses (λ k. not (isParticipant n initiator k) || f k)
+-- One fixed value, all zero, at the places of absent processes and at the initiator's own among the participants: a place that is
+-- empty names nobody.
+abbrev pub isBefore : Stage → Bool
+isBefore Before = true
+isBefore Searching = false
+isBefore Ended = false
+
+unfoldable pub isAbsent : Participant → Bool
+isAbsent p =
+    eqb (p .n) 0
+    && (eqb (p .me .0) 0
+    && (eqb (p .initiator .0) 0
+    && (eqb (p .purpose) 0
+    && (isBefore (p .stage)
+    && (eqb (p .candidate .0) 0
+    && (same (p .row) (asRow (λ q. 0))
+    && same (p .column) (asRow (λ q. 0))))))))
+
+-- of each of sixteen places that is not empty something holds
+abbrev pub atPlaces : Session → (Participant → Bool) → Bool
+atPlaces session f = allTo mostProcesses (λ k. isAbsent (participantAt session k) || f (participantAt session k))
+
+-- ---- 10 and 11
 
 -- 10: "Is each process named from 1 to n (a participant: other than the initiator)?"
 unfoldable pub sessionNamed : ℕ → Session → Bool
 sessionNamed n session =
     isNamed n (session .initiator .0)
     && (isNamed n (session .machine .me .0)
-    && atParticipants n (initiatorOf session)
-    (λ k. participantNamed n (participantAt session k .me .0) (participantAt session k .initiator .0)))
+    && atPlaces session (λ p. participantNamed n (p .me .0) (p .initiator .0)))
 
 -- 11: "Is the purpose 1, 2 or 3?"
-unfoldable pub sessionPurposes : ℕ → Session → Bool
-sessionPurposes n session =
+unfoldable pub sessionPurposes : Session → Bool
+sessionPurposes session =
     isPurpose (session .purpose)
-    && (isPurpose (session .machine .purpose)
-    && atParticipants n (initiatorOf session) (λ k. isPurpose (participantAt session k .purpose)))
+    && (isPurpose (session .machine .purpose) && atPlaces session (λ p. isPurpose (p .purpose)))
 
 -- ---- 13
 
@@ -80,25 +98,8 @@ strandFits session k w =
     -- "while it waits, no participant has ended and no termination waits"
     && (session .machine .ended || (not (isEnded (participantAt session k .stage)) && not (isEnding w))))
 
--- Our reading of "fit", beside 01's list: one fixed value, all zero, at the places of absent processes and at the initiator's own
--- among the participants.
-abbrev pub isBefore : Stage → Bool
-isBefore Before = true
-isBefore Searching = false
-isBefore Ended = false
-
-unfoldable pub isAbsent : Participant → Bool
-isAbsent p =
-    eqb (p .n) 0
-    && (eqb (p .me .0) 0
-    && (eqb (p .initiator .0) 0
-    && (eqb (p .purpose) 0
-    && (isBefore (p .stage)
-    && (eqb (p .candidate .0) 0
-    && (same (p .row) (asRow (λ q. 0))
-    && same (p .column) (asRow (λ q. 0))))))))
-
--- each place, with its strand
+-- Each place, with its strand. (That the places of absent processes and the initiator's own are empty is our reading of "fit",
+-- beside 01's list.)
 unfoldable pub placeFits : Shape → List ℕ → List ℕ → Session → List ℕ → ℕ → Bool
 placeFits shape sent received session strands k =
     pick (isParticipant (shape .n) (initiatorOf session) k)

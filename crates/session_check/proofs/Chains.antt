@@ -11,19 +11,19 @@ told-no {t} e h = sym e ∙ not-true t h
 pub told-yes : {t f : Bool} → t ≡ f → not t ≡ false → f ≡ true
 told-yes {t} e h = sym e ∙ not-false t h
 
--- a test that is put only where another is passed
-module _ (p t : Bool) where
-  pub not-put : p ≡ false → (not p || t) ≡ true
+-- a test that is put only where another is not passed
+module _ (e t : Bool) where
+  pub not-put : e ≡ true → (e || t) ≡ true
   not-put h = rw h
 
-  pub put-yes : t ≡ true → (not p || t) ≡ true
-  put-yes h = go p
+  pub put-yes : t ≡ true → (e || t) ≡ true
+  put-yes h = go e
     where
-      go : (b : Bool) → (not b || t) ≡ true
-      go true = h
-      go false = refl
+      go : (b : Bool) → (b || t) ≡ true
+      go true = refl
+      go false = h
 
-  pub put-no : p ≡ true → t ≡ false → (not p || t) ≡ false
+  pub put-no : e ≡ false → t ≡ false → (e || t) ≡ false
   put-no h k = rw (h, k)
 
 -- three in a row, and four

@@ -1,17 +1,16 @@
 -- Questions 10 and 11 of a session: the tests in turn.
 use mathlib.Core.Path.{_≡_}
-use mathlib.Core.Bool.{Bool, true, false, not, _||_}
+use mathlib.Core.Bool.{Bool, true, false, _||_}
 use mathlib.Core.List.{List}
 use Prim.Native.Nat.{ℕ, _<_}
 use native.Mathlib.Omega.{arith}
 use lib.ListN.{length, getD}
 use Rattle.message.specs.Formed.{isNamed, isPurpose}
-use Rattle.machine.specs.Named.{participantNamed, isParticipant}
+use Rattle.machine.specs.Named.{participantNamed}
 use Rattle.participant.specs.declared.Participant.{Participant}
 use Rattle.participant.specs.Calls.{noParticipant}
 use Rattle.session.specs.declared.Session.{Session}
-use Rattle.session.specs.Workers.{initiatorOf}
-use Rattle.session.specs.Fits.{sessionNamed, sessionPurposes}
+use Rattle.session.specs.Fits.{isAbsent, sessionNamed, sessionPurposes}
 use Rattle.session.proofs.Places.{beyond, at-place}
 use Rattle.session_check.specs.Parts.{at, allNamed, allPurposes}
 use Rattle.session_check.proofs.Chains.{first-of-three, second-of-three, third-of-three}
@@ -24,12 +23,12 @@ read-at participants k sixteen h = at-place beyond noParticipant participants k 
 -- ---- questions 10 and 11
 
 -- the tests at each place
-abbrev pub namedAt : ℕ → ℕ → List Participant → ℕ → Bool
-namedAt n initiator participants k =
-    not (isParticipant n initiator k) || participantNamed n (at participants k .me .0) (at participants k .initiator .0)
+abbrev pub namedAt : ℕ → List Participant → ℕ → Bool
+namedAt n participants k =
+    isAbsent (at participants k) || participantNamed n (at participants k .me .0) (at participants k .initiator .0)
 
-abbrev pub purposeAt : ℕ → ℕ → List Participant → ℕ → Bool
-purposeAt n initiator participants k = not (isParticipant n initiator k) || isPurpose (at participants k .purpose)
+abbrev pub purposeAt : List Participant → ℕ → Bool
+purposeAt participants k = isAbsent (at participants k) || isPurpose (at participants k .purpose)
 
 module _ (n : ℕ) (session : Session) where
   abbrev named : Bool
@@ -39,7 +38,7 @@ module _ (n : ℕ) (session : Session) where
   machineNamed = isNamed n (session .machine .me .0)
 
   abbrev restNamed : Bool
-  restNamed = allNamed n (initiatorOf session) (session .participants)
+  restNamed = allNamed n (session .participants)
 
   pub initiator-unnamed : named ≡ false → false ≡ sessionNamed n session
   unfolding sessionNamed
@@ -53,6 +52,7 @@ module _ (n : ℕ) (session : Session) where
   unfolding sessionNamed
   named-rest h k e = third-of-three named machineNamed restNamed h k e
 
+module _ (session : Session) where
   abbrev purposed : Bool
   purposed = isPurpose (session .purpose)
 
@@ -60,16 +60,16 @@ module _ (n : ℕ) (session : Session) where
   machinePurposed = isPurpose (session .machine .purpose)
 
   abbrev restPurposed : Bool
-  restPurposed = allPurposes n (initiatorOf session) (session .participants)
+  restPurposed = allPurposes (session .participants)
 
-  pub session-no-purpose : purposed ≡ false → false ≡ sessionPurposes n session
+  pub session-no-purpose : purposed ≡ false → false ≡ sessionPurposes session
   unfolding sessionPurposes
   session-no-purpose h = first-of-three purposed machinePurposed restPurposed h
 
-  pub machine-no-purpose : purposed ≡ true → machinePurposed ≡ false → false ≡ sessionPurposes n session
+  pub machine-no-purpose : purposed ≡ true → machinePurposed ≡ false → false ≡ sessionPurposes session
   unfolding sessionPurposes
   machine-no-purpose h k = second-of-three purposed machinePurposed restPurposed h k
 
-  pub purposes-rest : {r : Bool} → purposed ≡ true → machinePurposed ≡ true → r ≡ restPurposed → r ≡ sessionPurposes n session
+  pub purposes-rest : {r : Bool} → purposed ≡ true → machinePurposed ≡ true → r ≡ restPurposed → r ≡ sessionPurposes session
   unfolding sessionPurposes
   purposes-rest h k e = third-of-three purposed machinePurposed restPurposed h k e

@@ -8,8 +8,10 @@ use lib.ListN.{length, take, drop, getD}
 use lib.Dec.{leb, eqb}
 use Rattle.book.specs.declared.TableRows.{TableRows}
 use Rattle.book.specs.declared.Shape.{Shape}
+use Rattle.book.specs.Bounds.{mostProcesses}
 use Rattle.book.specs.View.{firstRows}
 use Rattle.book.specs.Check.{tablesQuestion}
+use Rattle.line_theory.specs.Over.{allTo}
 use Rattle.matrix.specs.Matrix.{pick}
 use Rattle.message.specs.Formed.{isPurpose}
 use Rattle.machine.specs.Own.{ownOf}
@@ -25,7 +27,7 @@ use Rattle.session.specs.declared.Waiting.{Waiting}
 use Rattle.session.specs.declared.Waiting.the-variants.{Nothing, Stray}
 use Rattle.session.specs.Workers.{isEnded}
 use Rattle.session.specs.Held.{senderIn, heldDown, heldUp, isAwaited, isEnding, isReport, isStray}
-use Rattle.session.specs.Fits.{atParticipants, isAbsent}
+use Rattle.session.specs.Fits.{isAbsent}
 
 -- the rows of accepted tables
 pub record TablesGiven (rows : TableRows) (sent received : List ℕ) : Type 0 where
@@ -36,13 +38,14 @@ pub record TablesGiven (rows : TableRows) (sent received : List ℕ) : Type 0 wh
 abbrev pub at : List Participant → ℕ → Participant
 at participants k = getD participants k noParticipant
 
--- 10 and 11 of the participants' machines
-abbrev pub allNamed : ℕ → ℕ → List Participant → Bool
-allNamed n initiator participants =
-    atParticipants n initiator (λ k. participantNamed n (at participants k .me .0) (at participants k .initiator .0))
+-- 10 and 11 of the places that are not empty
+abbrev pub allNamed : ℕ → List Participant → Bool
+allNamed n participants =
+    allTo mostProcesses
+    (λ k. isAbsent (at participants k) || participantNamed n (at participants k .me .0) (at participants k .initiator .0))
 
-abbrev pub allPurposes : ℕ → ℕ → List Participant → Bool
-allPurposes n initiator participants = atParticipants n initiator (λ k. isPurpose (at participants k .purpose))
+abbrev pub allPurposes : List Participant → Bool
+allPurposes participants = allTo mostProcesses (λ k. isAbsent (at participants k) || isPurpose (at participants k .purpose))
 
 -- 13 of the initiator's machine
 abbrev pub initiatorOn : Shape → List ℕ → List ℕ → ℕ → ℕ → Initiator → Bool

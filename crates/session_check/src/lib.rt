@@ -24,18 +24,62 @@ ghost use Rattle.session.specs.Held.{isReport, isStray};
 ghost use Rattle.session.specs.Fits.{sessionNamed, sessionPurposes, isAbsent, isBefore, placeFits, sessionFits};
 ghost use Rattle.session_check.specs.Parts.{TablesGiven, allNamed, allPurposes, initiatorOn, machineFits, lengthFits, heldFits, PlaceTold};
 
-// Are the processes named by the participants' machines, and is each another process than the initiator?
-fn all_named(n: usize, initiator: Process, participants: [Participant; 16]) -> bool
-    requires { ⌜ 1 ≤ initiator .0 ⌝ }
-    ensures { λ r. ⌜ r ≡ allNamed n (initiator .0 - 1) participants ⌝ }
+// Is it before the invitation?
+fn is_before(stage: Stage) -> bool
+    ensures { λ r. ⌜ r ≡ isBefore stage ⌝ }
 {
-    let own = initiator.0 - 1;
+    match stage {
+        Stage::Before => true,
+        Stage::Searching => false,
+        Stage::Ended => false,
+    }
+}
+
+// Is the machine all zero, as at a place that is empty?
+fn is_absent(p: Participant) -> bool
+    ensures { λ r. ⌜ r ≡ isAbsent p ⌝ }
+{
+    let me = p.me;
+    let initiator = p.initiator;
+    let stage = p.stage;
+    let candidate = p.candidate;
+    let row = p.row;
+    let column = p.column;
+    let none = [book::Count(0); 16];
+    if p.n != 0 {
+        return false;
+    }
+    if me.0 != 0 {
+        return false;
+    }
+    if initiator.0 != 0 {
+        return false;
+    }
+    if p.purpose != 0 {
+        return false;
+    }
+    if !is_before(stage) {
+        return false;
+    }
+    if candidate.0 != 0 {
+        return false;
+    }
+    if !matrix::same(row, none) {
+        return false;
+    }
+    matrix::same(column, none)
+}
+
+// Are the processes named at each place that is not empty, and is each another process than the initiator that it names?
+fn all_named(n: usize, participants: [Participant; 16]) -> bool
+    ensures { λ r. ⌜ r ≡ allNamed n participants ⌝ }
+{
     let mut k = 0;
     while k < book::MOST_PROCESSES {
         let p = participants[k];
         let me = p.me;
         let its = p.initiator;
-        if machine::is_participant(n, own, k) && !machine::participant_named(n, me, its) {
+        if !is_absent(p) && !machine::participant_named(n, me, its) {
             return false;
         }
         k += 1;
@@ -43,16 +87,14 @@ fn all_named(n: usize, initiator: Process, participants: [Participant; 16]) -> b
     true
 }
 
-// Are the purposes of the participants' machines purposes?
-fn all_purposes(n: usize, initiator: Process, participants: [Participant; 16]) -> bool
-    requires { ⌜ 1 ≤ initiator .0 ⌝ }
-    ensures { λ r. ⌜ r ≡ allPurposes n (initiator .0 - 1) participants ⌝ }
+// Are the purposes at the places that are not empty purposes?
+fn all_purposes(participants: [Participant; 16]) -> bool
+    ensures { λ r. ⌜ r ≡ allPurposes participants ⌝ }
 {
-    let own = initiator.0 - 1;
     let mut k = 0;
     while k < book::MOST_PROCESSES {
         let p = participants[k];
-        if machine::is_participant(n, own, k) && !message::is_purpose(p.purpose) {
+        if !is_absent(p) && !message::is_purpose(p.purpose) {
             return false;
         }
         k += 1;
@@ -74,15 +116,13 @@ pub fn named(session: Session, n: usize) -> bool
     if !message::is_named(n, me.0) {
         return false;
     }
-    all_named(n, initiator, participants)
+    all_named(n, participants)
 }
 
 // Question 11 of a session.
-pub fn purposes(session: Session, n: usize) -> bool
-    requires { ⌜ 1 ≤ session .initiator .0 ⌝ }
-    ensures { λ r. ⌜ r ≡ sessionPurposes n session ⌝ }
+pub fn purposes(session: Session) -> bool
+    ensures { λ r. ⌜ r ≡ sessionPurposes session ⌝ }
 {
-    let initiator = session.initiator;
     let machine = session.machine;
     let participants = session.participants;
     if !message::is_purpose(session.purpose) {
@@ -91,7 +131,7 @@ pub fn purposes(session: Session, n: usize) -> bool
     if !message::is_purpose(machine.purpose) {
         return false;
     }
-    all_purposes(n, initiator, participants)
+    all_purposes(participants)
 }
 
 // Does the initiator's machine fit, and is it the session's?
@@ -183,52 +223,6 @@ fn held_fits(awaited: bool, ended: bool, stage: Stage, w: Waiting) -> bool
         Waiting::Report => awaited && going,
         Waiting::Stray => false,
     }
-}
-
-// Is it before the invitation?
-fn is_before(stage: Stage) -> bool
-    ensures { λ r. ⌜ r ≡ isBefore stage ⌝ }
-{
-    match stage {
-        Stage::Before => true,
-        Stage::Searching => false,
-        Stage::Ended => false,
-    }
-}
-
-// Is the machine all zero, as at a place that is no participant's?
-fn is_absent(p: Participant) -> bool
-    ensures { λ r. ⌜ r ≡ isAbsent p ⌝ }
-{
-    let me = p.me;
-    let initiator = p.initiator;
-    let stage = p.stage;
-    let candidate = p.candidate;
-    let row = p.row;
-    let column = p.column;
-    let none = [book::Count(0); 16];
-    if p.n != 0 {
-        return false;
-    }
-    if me.0 != 0 {
-        return false;
-    }
-    if initiator.0 != 0 {
-        return false;
-    }
-    if p.purpose != 0 {
-        return false;
-    }
-    if !is_before(stage) {
-        return false;
-    }
-    if candidate.0 != 0 {
-        return false;
-    }
-    if !matrix::same(row, none) {
-        return false;
-    }
-    matrix::same(column, none)
 }
 
 // What the strand of a place that is no participant's holds: nothing; stray where it does not fit.

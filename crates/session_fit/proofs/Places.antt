@@ -1,17 +1,18 @@
 -- Questions 10, 11 and 13 of a session whose machines are placed and whose strands are laid out.
 use mathlib.Core.Path.{_≡_, refl, sym, ap, subst, _∙_}
-use mathlib.Core.Bool.{Bool, true, false, not, _&&_}
+use mathlib.Core.Bool.{Bool, true, false, _&&_, _||_}
 use mathlib.Core.List.{List}
 use Prim.Native.Nat.{ℕ, suc, _+_, _-_, _<_}
 use native.Mathlib.Decide.{ℕ-discrete}
 use native.Mathlib.Omega.{arith}
-use borrow.Author.Tests.{lt-ltb, le-leb, eq-eqb, ne-eqb, not-false}
+use borrow.Author.Tests.{lt-ltb, le-leb, eq-eqb, ne-eqb}
 use lib.ListN.{length}
 use lib.Dec.{eqb}
 use Rattle.book.specs.declared.Process.{Process}
 use Rattle.line_theory.proofs.Over.{all-out}
 use Rattle.matrix.specs.Matrix.{asRow}
-use Rattle.machine.specs.Named.{isParticipant, countLimit}
+use Rattle.message.specs.Formed.{isPurpose}
+use Rattle.machine.specs.Named.{participantNamed, isParticipant, countLimit}
 use Rattle.machine_laws.proofs.Tests.{or-out}
 use Rattle.machine_laws.proofs.Rows.{same-self}
 use Rattle.participant.specs.declared.Participant.{Participant}
@@ -40,19 +41,29 @@ module _ (g : Search) (is : IsSearch g) (s : Session) (placed : Placed g s) wher
 
   -- ---- 10 and 11
 
+  -- a place is a participant's, or empty
+  place-passes : (f : Participant → Bool) → ((k : ℕ) → isPart g k ≡ true → f (participantAt s k) ≡ true)
+      → (k : ℕ) → k < 16 → (isAbsent (participantAt s k) || f (participantAt s k)) ≡ true
+  place-passes f part k h = go (isPart g k) refl
+    where
+      go : (there : Bool) → isPart g k ≡ there → (isAbsent (participantAt s k) || f (participantAt s k)) ≡ true
+      go true there = or-out (isAbsent (participantAt s k)) (f (participantAt s k)) (λ _. part k there)
+      go false none = rw (ap isAbsent (placed .absent k h none .0) ∙ nobody-there)
+
   named : sessionNamed n s ≡ true
   unfolding sessionNamed
   named =
       rw (placed .leader, placed .machine-me, is .named)
-      (all-out 16 _ (λ k h. or-out (not (isPart g k)) _
-      (λ e. let there = not-false (isPart g k) e in part-named g is k there (participantAt s k) (placed .part k there))))
+      (all-out 16 _
+      (place-passes (λ p. participantNamed n (p .me .0) (p .initiator .0))
+      (λ k there. part-named g is k there (participantAt s k) (placed .part k there))))
 
-  purposed : sessionPurposes n s ≡ true
+  purposed : sessionPurposes s ≡ true
   unfolding sessionPurposes
   purposed =
-      rw (placed .leader, placed .purpose, placed .machine-purpose, is .purposed)
-      (all-out 16 _ (λ k h. or-out (not (isPart g k)) _
-      (λ e. rw (placed .part k (not-false (isPart g k) e) .purpose) (is .purposed))))
+      rw (placed .purpose, placed .machine-purpose, is .purposed)
+      (all-out 16 _
+      (place-passes (λ p. isPurpose (p .purpose)) (λ k there. rw (placed .part k there .purpose) (is .purposed))))
 
   -- ---- 13
 

@@ -74,7 +74,7 @@ RoomSuffices =
 
 pub record Passes (g : Search) (s : Session) (strands : List ℕ) : Type 0 where
   pub named : sessionNamed (size g) s ≡ true
-  pub purposed : sessionPurposes (size g) s ≡ true
+  pub purposed : sessionPurposes s ≡ true
   pub fitting : sessionFits (g .shape) (g .sent) (g .received) s strands ≡ true
 
 abbrev pub holding : Phase → Waiting

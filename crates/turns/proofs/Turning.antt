@@ -98,7 +98,7 @@ module _ (shape : Shape) (sent received : List ℕ) (session : Session) (p : Pro
   abbrev pub of-session : ℕ
   of-session =
       ask 10 names
-      then λ _. ask 11 (sessionPurposes (shape .n) session)
+      then λ _. ask 11 (sessionPurposes session)
       then λ _. ask 13 (sessionFits shape sent received session strands)
 
   abbrev has-room : Bool
@@ -120,7 +120,7 @@ module _ (shape : Shape) (sent received : List ℕ) (session : Session) (p : Pro
   unfolding turnQuestion
   by-parts =
       ap (λ (q : ℕ). tables then λ _. q)
-      (sym (three-then (ask 10 names) (ask 11 (sessionPurposes (shape .n) session)) (ask 13 (sessionFits shape sent received session strands)) last))
+      (sym (three-then (ask 10 names) (ask 11 (sessionPurposes session)) (ask 13 (sessionFits shape sent received session strands)) last))
 
   abbrev After : Answer → Session → List ℕ → Type 0
   After answer after bytes =
@@ -211,7 +211,7 @@ module _ (shape : Shape) (sent received : List ℕ) (session : Session) (p : Pro
     passed-fits =
         let after-names = then-none (ask 10 names) _ fits .1 in
         asked-yes 12 (sessionFits shape sent received session strands)
-        (then-none (ask 11 (sessionPurposes (shape .n) session)) (λ _. ask 13 (sessionFits shape sent received session strands)) after-names .1)
+        (then-none (ask 11 (sessionPurposes session)) (λ _. ask 13 (sessionFits shape sent received session strands)) after-names .1)
 
   -- ---- a turn that no question refuses
 

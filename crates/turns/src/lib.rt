@@ -125,7 +125,7 @@ fn session_question(
     strands: &[u8],
 ) -> u32
     requires { ⌜ TablesGiven rows (now sent) (now received) ⌝ }
-    ensures { λ r. ⌜ r ≡ (ask 10 (participantNamed (rows .shape .n) (p .0) (session .initiator .0) && sessionNamed (rows .shape .n) session) then λ _. ask 11 (sessionPurposes (rows .shape .n) session) then λ _. ask 13 (sessionFits (rows .shape) (now (sent .entry)) (now (received .entry)) session (now (strands .entry)))) ⌝ }
+    ensures { λ r. ⌜ r ≡ (ask 10 (participantNamed (rows .shape .n) (p .0) (session .initiator .0) && sessionNamed (rows .shape .n) session) then λ _. ask 11 (sessionPurposes session) then λ _. ask 13 (sessionFits (rows .shape) (now (sent .entry)) (now (received .entry)) session (now (strands .entry)))) ⌝ }
 {
     let shape = rows.shape;
     let initiator = session.initiator;
@@ -135,7 +135,7 @@ fn session_question(
     if !session_check::named(session, shape.n) {
         return 10;
     }
-    if !session_check::purposes(session, shape.n) {
+    if !session_check::purposes(session) {
         return 11;
     }
     if !session_check::fits(session, rows, sent, received, strands) {

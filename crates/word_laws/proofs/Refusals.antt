@@ -104,13 +104,13 @@ module _ (shape : Shape) (sent received : List ℕ) where
       → turnQuestion shape sent received session p strands
       ≡ (tables
       then λ _. ask 10 (participantNamed (shape .n) (p .0) (session .initiator .0) && sessionNamed (shape .n) session)
-      then λ _. ask 11 (sessionPurposes (shape .n) session)
+      then λ _. ask 11 (sessionPurposes session)
       then λ _. 13)
   unfolding turnQuestion
   session-refused session p strands none =
       let n : ℕ = shape .n in
       let names : Bool = participantNamed n (p .0) (session .initiator .0) in
-      refused tables (names && sessionNamed n session) (sessionPurposes n session) (sessionFits shape sent received session strands) _
+      refused tables (names && sessionNamed n session) (sessionPurposes session) (sessionFits shape sent received session strands) _
       (λ named.
       session-unfit shape sent received session strands
       (other-participant (session .n) n none (p .0) (session .initiator .0) (and-both names (sessionNamed n session) named .0)))

@@ -91,5 +91,5 @@ SessionUndecoded =
     → turnQuestion shape sent received (sessionIn words) p strands
     ≡ (tablesQuestion shape sent received
     then λ _. ask 10 (participantNamed (shape .n) (p .0) (word words 1) && sessionNamed (shape .n) (sessionIn words))
-    then λ _. ask 11 (sessionPurposes (shape .n) (sessionIn words))
+    then λ _. ask 11 (sessionPurposes (sessionIn words))
     then λ _. 13)

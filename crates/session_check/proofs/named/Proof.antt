@@ -1,6 +1,5 @@
 -- `named` meets its contract.
 use borrow.Author.Needs.{needs}
-use Rattle.message.proofs.Heads.{named-in}
 use Rattle.session_check.proofs.Chains.{told-no, told-yes}
 use Rattle.session_check.proofs.Naming.{initiator-unnamed, machine-unnamed, named-rest}
 use Rattle.session_check.proofs.named.Statement.{statement}
@@ -21,9 +20,7 @@ returns-2 c =
     machine-unnamed (a .n) (a .session) (told-yes (c .before .before .before .is-named .ensures) (c .before .before .if1 .left)) (told-no (c .before .is-named2 .ensures) (c .if2 .taken))
 
 all-named-requires : tie.Need-all-named-requires
-all-named-requires c κs =
-    let a = c .before .before .before .before .before .before .before .before .args in
-    named-in (a .n) (a .session .initiator .0) (told-yes (c .before .before .before .is-named .ensures) (c .before .before .if1 .left)) .0
+all-named-requires c κs = search needs
 
 returns-3 : tie.Need-returns-3
 returns-3 c =

@@ -29,7 +29,7 @@ names c =
     let told = c .before .named in
     both-and (participantNamed (a .rows .shape .n) (a .p .0) (a .session .initiator .0)) (sessionNamed (a .rows .shape .n) (a .session)) (named-in (c .before .before)) (sym (told .ensures) ∙ not-false (told .result) (c .if2 .left))
 
-right : (c : tie.Else3) → let a = c .before .before .before .before .before .before .before .before .before .before .before .args in sessionPurposes (a .rows .shape .n) (a .session) ≡ true
+right : (c : tie.Else3) → let a = c .before .before .before .before .before .before .before .before .before .before .before .args in sessionPurposes (a .session) ≡ true
 right c = let told = c .before .purposes in sym (told .ensures) ∙ not-false (told .result) (c .if3 .left)
 
 participant-named-requires : tie.Need-participant-named-requires
@@ -39,7 +39,7 @@ returns : tie.Need-returns
 returns c =
     let a = c .before .before .before .before .before .before .before .args in
     let told = c .before .participant-named in
-    first-no 10 11 13 (participantNamed (a .rows .shape .n) (a .p .0) (a .session .initiator .0) && sessionNamed (a .rows .shape .n) (a .session)) (sessionPurposes (a .rows .shape .n) (a .session))
+    first-no 10 11 13 (participantNamed (a .rows .shape .n) (a .p .0) (a .session .initiator .0) && sessionNamed (a .rows .shape .n) (a .session)) (sessionPurposes (a .session))
     (sessionFits (a .rows .shape) (a .sent .now) (a .received .now) (a .session) (a .strands .now))
     (omega arith)
     (and-first (participantNamed (a .rows .shape .n) (a .p .0) (a .session .initiator .0)) (sessionNamed (a .rows .shape .n) (a .session)) (sym (told .ensures) ∙ not-true (told .result) (c .if1 .taken)))
@@ -51,19 +51,19 @@ returns-2 : tie.Need-returns-2
 returns-2 c =
     let a = c .before .before .before .before .before .before .before .before .before .args in
     let told = c .before .named in
-    first-no 10 11 13 (participantNamed (a .rows .shape .n) (a .p .0) (a .session .initiator .0) && sessionNamed (a .rows .shape .n) (a .session)) (sessionPurposes (a .rows .shape .n) (a .session))
+    first-no 10 11 13 (participantNamed (a .rows .shape .n) (a .p .0) (a .session .initiator .0) && sessionNamed (a .rows .shape .n) (a .session)) (sessionPurposes (a .session))
     (sessionFits (a .rows .shape) (a .sent .now) (a .received .now) (a .session) (a .strands .now))
     (omega arith)
     (and-second (participantNamed (a .rows .shape .n) (a .p .0) (a .session .initiator .0)) (sessionNamed (a .rows .shape .n) (a .session)) (sym (told .ensures) ∙ not-true (told .result) (c .if2 .taken)))
 
 purposes-requires : tie.Need-purposes-requires
-purposes-requires c κs = there (c .before .before) .0
+purposes-requires c κs = search needs
 
 returns-3 : tie.Need-returns-3
 returns-3 c =
     let a = c .before .before .before .before .before .before .before .before .before .before .before .args in
     let told = c .before .purposes in
-    second-no 10 11 13 (participantNamed (a .rows .shape .n) (a .p .0) (a .session .initiator .0) && sessionNamed (a .rows .shape .n) (a .session)) (sessionPurposes (a .rows .shape .n) (a .session))
+    second-no 10 11 13 (participantNamed (a .rows .shape .n) (a .p .0) (a .session .initiator .0) && sessionNamed (a .rows .shape .n) (a .session)) (sessionPurposes (a .session))
     (sessionFits (a .rows .shape) (a .sent .now) (a .received .now) (a .session) (a .strands .now))
     (names (c .before .before))
     (omega arith)
@@ -76,7 +76,7 @@ returns-4 : tie.Need-returns-4
 returns-4 c =
     let a = c .before .before .before .before .before .before .before .before .before .before .before .before .before .args in
     let told = c .before .fits2 in
-    third-no 10 11 13 (participantNamed (a .rows .shape .n) (a .p .0) (a .session .initiator .0) && sessionNamed (a .rows .shape .n) (a .session)) (sessionPurposes (a .rows .shape .n) (a .session))
+    third-no 10 11 13 (participantNamed (a .rows .shape .n) (a .p .0) (a .session .initiator .0) && sessionNamed (a .rows .shape .n) (a .session)) (sessionPurposes (a .session))
     (sessionFits (a .rows .shape) (a .sent .now) (a .received .now) (a .session) (a .strands .now))
     (names (c .before .before .before .before))
     (right (c .before .before))
@@ -86,7 +86,7 @@ returns-5 : tie.Need-returns-5
 returns-5 c =
     let a = c .before .before .before .before .before .before .before .before .before .before .before .before .before .args in
     let told = c .before .fits2 in
-    all-yes 10 11 13 (participantNamed (a .rows .shape .n) (a .p .0) (a .session .initiator .0) && sessionNamed (a .rows .shape .n) (a .session)) (sessionPurposes (a .rows .shape .n) (a .session))
+    all-yes 10 11 13 (participantNamed (a .rows .shape .n) (a .p .0) (a .session .initiator .0) && sessionNamed (a .rows .shape .n) (a .session)) (sessionPurposes (a .session))
     (sessionFits (a .rows .shape) (a .sent .now) (a .received .now) (a .session) (a .strands .now))
     (names (c .before .before .before .before))
     (right (c .before .before))
