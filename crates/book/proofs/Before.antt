@@ -6,7 +6,7 @@ use Prim.Native.Nat.{ℕ, _+_, _-_, _≤_, _<_}
 use native.Mathlib.Omega.{arith}
 use lib.ListN.{length, drop, getD, length-replicate, getD-replicate}
 use lib.Seq.{getD-drop}
-use Rattle.book.specs.Tables.{column}
+use Rattle.book.specs.Tables.{partnerColumn}
 use Rattle.book.specs.Before.{entryBefore, countersBefore}
 use Rattle.book.proofs.Rows.{length-others, getD-others}
 
@@ -18,12 +18,12 @@ module _ (n j start : ℕ) (table : List ℕ) (present : j < n) (wide : n ≤ le
 
   -- each is the entry one row before its column
   pub before-there : (oldest : Bool) (k : ℕ) → (oldest ≡ false → 16 ≤ start) → k < n - 1
-      → getD (countersBefore oldest n j start table) k 0 ≡ entryBefore oldest (start + column j k) table
+      → getD (countersBefore oldest n j start table) k 0 ≡ entryBefore oldest (start + partnerColumn j k) table
   unfolding countersBefore
   before-there true k later h = getD-replicate (n - 1) k 0 0 h
   before-there false k later h =
       let at = later refl in
-      let same : start - 16 + column j k ≡ start + column j k - 16 = omega arith in
+      let same : start - 16 + partnerColumn j k ≡ start + partnerColumn j k - 16 = omega arith in
       getD-others n j k (drop (start - 16) table) present wide h
-      ∙ getD-drop (start - 16) table (column j k) 0
+      ∙ getD-drop (start - 16) table (partnerColumn j k) 0
       ∙ ap (λ (i : ℕ). getD table i 0) same

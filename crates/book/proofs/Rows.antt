@@ -11,7 +11,7 @@ use borrow.Author.Tests.{lt-ltb, le-ltb}
 use lib.ListN.{length, take, drop, getD, replicate, length-append, length-take, length-drop, length-replicate, take-append-drop, List·getD-append}
 use lib.Seq.{length-take-le, take-at, getD-append-add, getD-drop, getD-take, drop-drop, take-nil}
 use Rattle.book.specs.Layout.{checkpointsIn}
-use Rattle.book.specs.Tables.{tableRow, others, column, checkpointsOf}
+use Rattle.book.specs.Tables.{tableRow, others, partnerColumn, checkpointsOf}
 use Rattle.book.specs.InTurn.{_then_}
 use Rattle.book.specs.Questions.{counterQuestion}
 use Rattle.book.specs.Along.{countersQuestion}
@@ -67,19 +67,19 @@ others-row n j cs rest h k long =
     )
 
 -- the k-th of the others stands in its column
-pub getD-others : (n j k : ℕ) (row : List ℕ) → j < n → n ≤ length row → k < n - 1 → getD (others n j row) k 0 ≡ getD row (column j k) 0
-unfolding others column
+pub getD-others : (n j k : ℕ) (row : List ℕ) → j < n → n ≤ length row → k < n - 1 → getD (others n j row) k 0 ≡ getD row (partnerColumn j k) 0
+unfolding others partnerColumn
 getD-others n j k row h long i = elim (decLt k j) [ yes lt ↦ low lt | no ge ↦ high (omega arith) ]
   where
     len : length (take j row) ≡ j
     len = length-take-le j row (omega arith)
 
-    low : k < j → getD (others n j row) k 0 ≡ getD row (column j k) 0
+    low : k < j → getD (others n j row) k 0 ≡ getD row (partnerColumn j k) 0
     low lt =
         rw (lt-ltb k j lt)
         (List·getD-append (take j row) (drop (suc j) (take n row)) 0 k (rw len lt) ∙ getD-take j row k 0 lt)
 
-    high : j ≤ k → getD (others n j row) k 0 ≡ getD row (column j k) 0
+    high : j ≤ k → getD (others n j row) k 0 ≡ getD row (partnerColumn j k) 0
     high le =
         let split : k ≡ length (take j row) + (k - j) = rw len (omega arith) in
         let there : suc j + (k - j) ≡ k + 1 = omega arith in
@@ -108,8 +108,8 @@ drop-rows first count table =
     drop-drop (count * 16) (first * 16) table ∙ ap (λ (i : ℕ). drop i table) at
 
 -- a column is no further than one past its place among the others
-pub column-within : (j k : ℕ) → column j k ≤ k + 1
-unfolding column
+pub column-within : (j k : ℕ) → partnerColumn j k ≤ k + 1
+unfolding partnerColumn
 column-within j k = elim (decLt k j) [ yes h ↦ rw (lt-ltb k j h) (omega arith) | no h ↦ rw (le-ltb k j (omega arith)) (omega arith) ]
 
 -- a part cut off behind is the same before and after the front goes

@@ -15,21 +15,21 @@ use Rattle.book.specs.Along.{bookQuestion}
 
 -- the numbers that the bytes hold, up to the first place at which none stands: whoever looks for a number there finds
 -- none, and question 3 fails
-abbrev pub numbersOf : List ℕ → List ℕ
-numbersOf bytes = numbersAt groups largest bytes 0 .found
+abbrev pub numbersFound : List ℕ → List ℕ
+numbersFound bytes = numbersAt groups largest bytes 0 .found
 
 -- and whether they end where the bytes end
-abbrev pub ended : List ℕ → Bool
-ended bytes = eqb (numbersAt groups largest bytes 0 .stop) (length bytes)
+abbrev pub endWithBytes : List ℕ → Bool
+endWithBytes bytes = eqb (numbersAt groups largest bytes 0 .stop) (length bytes)
 
 -- the first question that a read fails: 1, 2, then 3 to 9 along the book
 unfoldable pub readQuestion : List ℕ → List ℕ → List ℕ → ℕ
 readQuestion bytes sent received =
-    bytesQuestion bytes then λ _. lengthQuestion sent received then λ _. bookQuestion mark (ended bytes) (numbersOf bytes)
+    bytesQuestion bytes then λ _. lengthQuestion sent received then λ _. bookQuestion mark (endWithBytes bytes) (numbersFound bytes)
 
 -- the book that the bytes hold
 abbrev pub bookRead : List ℕ → Book
-bookRead bytes = bookIn (numbersOf bytes)
+bookRead bytes = bookIn (numbersFound bytes)
 
 -- the shape beside a refusal
 abbrev pub noShape : Shape

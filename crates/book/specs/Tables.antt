@@ -50,8 +50,8 @@ abbrev pub shifted : Bool → ℕ → ℕ
 shifted true k = k
 shifted false k = k + 1
 
-unfoldable pub column : ℕ → ℕ → ℕ
-column j k = shifted (ltb k j) k
+unfoldable pub partnerColumn : ℕ → ℕ → ℕ
+partnerColumn j k = shifted (ltb k j) k
 
 -- the checkpoints of process j, whose rows begin the two lists
 unfoldable pub checkpointsOf : ℕ → ℕ → ℕ → List ℕ → List ℕ → List (List ℕ)

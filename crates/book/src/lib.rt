@@ -5,7 +5,7 @@ ghost use mathlib.Core.Bool.{false};
 ghost use Prim.Native.Nat.{_+_, _-_, _*_, _≤_, _<_};
 ghost use lib.ListN.{length, replicate};
 ghost use lib.Seq.{sets};
-ghost use Rattle.book.specs.Tables.{column};
+ghost use Rattle.book.specs.Tables.{partnerColumn};
 ghost use Rattle.book.specs.View.{sum, firstRows, counterFrom};
 ghost use Rattle.book.specs.Before.{entryBefore};
 ghost use Rattle.book.specs.Questions.{zeroIfOldest, counterQuestion};
@@ -109,9 +109,9 @@ pub fn entry_before(table: &[Counter], at: usize, oldest: bool) -> u64
 }
 
 // The column of the k-th of the other processes, in rising order, in a row of process j; both count from 0.
-pub fn column(j: usize, k: usize) -> usize
+pub fn partner_column(j: usize, k: usize) -> usize
     requires { ⌜ k < 16 ⌝ }
-    ensures { λ r. ⌜ r ≡ column j k ⌝ }
+    ensures { λ r. ⌜ r ≡ partnerColumn j k ⌝ }
 {
     if k < j { k } else { k + 1 }
 }

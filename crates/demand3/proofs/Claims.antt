@@ -22,7 +22,7 @@ use Rattle.session_theory.proofs.Search.{Search, IsSearch, size, lead, isPart, 
 use Rattle.session_theory.proofs.Invariant.{Laid, Phase, quiet, reported, asked, weight, one}
 use Rattle.session_theory.proofs.Facts.{worker, part-within, book-is}
 use Rattle.session_theory.proofs.Search as theory
-use Rattle.demand3.specs.Statement.{Beginning, shapeIn, sentIn, receivedIn, viewIn, IsAccepted, Searches, atStart, after, nextQuestion, messageWaits, someoneGoesOn, newer, mostDelivered, HoldsAfter, Demand3}
+use Rattle.demand3.specs.Statement.{Beginning, shapeLeft, sentLeft, receivedLeft, viewLeft, IsAccepted, Searches, atStart, after, nextQuestion, messageWaits, someoneGoesOn, mostDelivered, HoldsAfter, Demand3}
 use Rattle.demand3.specs.Beside.{AtEnd, acceptedIn, GoesOn}
 use Rattle.demand3.proofs.Kept.{Kept, answers, room-answers}
 use Rattle.demand3.proofs.Lists.{Listed, listed}
@@ -56,7 +56,7 @@ module _
     few-delivered (inl w) = omega (arith, w .2 .deliveries-left)
     few-delivered (inr f) = omega (arith, f .1 .deliveries-left)
 
-    few-rounds : InSearch g s box → s .machine .rounds ≤ theory.newer g + 2
+    few-rounds : InSearch g s box → s .machine .rounds ≤ theory.passedIn g + 2
     few-rounds (inl w) = omega (arith, w .2 .rounds-left)
     few-rounds (inr f) = f .1 .few-rounds
 
@@ -115,18 +115,18 @@ module _ (b : Beginning) (a : IsAccepted b) (h : Searches b) (turns : List Proce
   abbrev now : InSearch g (o .session) (all .holds .box)
   now = all .holds .state
 
-  is-line : IsLine (viewIn b) (line (viewIn b))
-  is-line = line-is-line mark (viewIn b) (book-is g is)
+  is-line : IsLine (viewLeft b) (line (viewLeft b))
+  is-line = line-is-line mark (viewLeft b) (book-is g is)
 
   long : length (o .strands) ≡ length (b .strands)
   long = all .long ∙ search-long b a h
 
-  counted : o .session .delivered ≡ acceptedTurns (shapeIn b) (sentIn b) (receivedIn b) (atStart b) turns
+  counted : o .session .delivered ≡ acceptedTurns (shapeLeft b) (sentLeft b) (receivedLeft b) (atStart b) turns
   counted = omega (arith, all .delivered, start-delivered b a)
 
   with-room :
       (p : Process) → 1 ≤ p .0 → waitsOn (o .session) (p .0 - 1) ≡ true
-      → roomForAll (shapeIn b .n) ≤ length (b .strands) → nextQuestion b turns p ≡ 0
+      → roomForAll (shapeLeft b .n) ≤ length (b .strands) → nextQuestion b turns p ≡ 0
   with-room p some waits room =
       room-answers g is (InSearch g) kept o (all .holds) p some waits (omega (arith, long, room))
 
@@ -148,15 +148,15 @@ module _ (b : Beginning) (a : IsAccepted b) (h : Searches b) (turns : List Proce
         with-room = with-room;
       }
 
-  module _ (room : roomForAll (shapeIn b .n) ≤ length (b .strands)) where
-    goes : ((j : ℕ) → j < shapeIn b .n → hasEnded (o .session) j ≡ true)
+  module _ (room : roomForAll (shapeLeft b .n) ≤ length (b .strands)) where
+    goes : ((j : ℕ) → j < shapeLeft b .n → hasEnded (o .session) j ≡ true)
         ⊎ ((p : Process) × (nextQuestion b turns p ≡ 0))
-    goes = go (allTo (shapeIn b .n) (hasEnded (o .session))) refl
+    goes = go (allTo (shapeLeft b .n) (hasEnded (o .session))) refl
       where
-        go : (v : Bool) → allTo (shapeIn b .n) (hasEnded (o .session)) ≡ v
-            → ((j : ℕ) → j < shapeIn b .n → hasEnded (o .session) j ≡ true)
+        go : (v : Bool) → allTo (shapeLeft b .n) (hasEnded (o .session)) ≡ v
+            → ((j : ℕ) → j < shapeLeft b .n → hasEnded (o .session) j ≡ true)
             ⊎ ((p : Process) × (nextQuestion b turns p ≡ 0))
-        go true e = inl (all-in (shapeIn b .n) (hasEnded (o .session)) e)
+        go true e = inl (all-in (shapeLeft b .n) (hasEnded (o .session)) e)
         go false e =
             let found = waits-found (o .session) (holds-after .waits-exactly ∙ ap not e) in
             let p : Process = record { 0 = suc (found .0) } in
@@ -165,8 +165,8 @@ module _ (b : Beginning) (a : IsAccepted b) (h : Searches b) (turns : List Proce
             inr (p, with-room p (omega arith) waits room)
 
     ends :
-        mostDelivered (viewIn b) ≤ acceptedTurns (shapeIn b) (sentIn b) (receivedIn b) (atStart b) turns → (j : ℕ) → j < shapeIn b .n
-        → (hasEnded (o .session) j ≡ true) × (standsOn (o .session) j ≡ line (viewIn b) j)
+        mostDelivered (viewLeft b) ≤ acceptedTurns (shapeLeft b) (sentLeft b) (receivedLeft b) (atStart b) turns → (j : ℕ) → j < shapeLeft b .n
+        → (hasEnded (o .session) j ≡ true) × (standsOn (o .session) j ≡ line (viewLeft b) j)
     ends many j small =
         let ended : hasEnded (o .session) j ≡ true =
         all-over g is (searching b a h) o (all .holds .box) (all .holds .laid) now (omega (arith, counted, many)) j small in
@@ -179,6 +179,6 @@ pub goes-on : GoesOn
 goes-on b a h room turns = goes b a h turns room
 
 -- where as many turns were accepted as can be
-pub comes-to-end : (b : Beginning) → IsAccepted b → Searches b → roomForAll (shapeIn b .n) ≤ length (b .strands)
-    → (turns : List Process) → mostDelivered (viewIn b) ≤ acceptedIn b turns → AtEnd b turns
+pub comes-to-end : (b : Beginning) → IsAccepted b → Searches b → roomForAll (shapeLeft b .n) ≤ length (b .strands)
+    → (turns : List Process) → mostDelivered (viewLeft b) ≤ acceptedIn b turns → AtEnd b turns
 comes-to-end b a h room turns many j small = ends b a h turns room many j small

@@ -14,7 +14,7 @@ use Rattle.matrix.specs.Matrix.{pick}
 use Rattle.strands.specs.Strands.{roomForAll}
 use Rattle.session.specs.Workers.{hasEnded}
 use Rattle.session.specs.Turns.{Ongoing, afterTurn, afterTurns, turnAccepted, acceptedTurns}
-use Rattle.demand3.specs.Statement.{Beginning, shapeIn, sentIn, receivedIn, viewIn, IsAccepted, Searches, atStart, after, nextQuestion, mostDelivered}
+use Rattle.demand3.specs.Statement.{Beginning, shapeLeft, sentLeft, receivedLeft, viewLeft, IsAccepted, Searches, atStart, after, nextQuestion, mostDelivered}
 use Rattle.demand3.specs.Beside.{AtEnd, EndIsReached}
 use Rattle.demand3.proofs.Claims.{demand-3, goes-on, comes-to-end}
 
@@ -33,10 +33,10 @@ module _
     (b : Beginning)
     (a : IsAccepted b)
     (h : Searches b)
-    (room : roomForAll (shapeIn b .n) ≤ length (b .strands))
+    (room : roomForAll (shapeLeft b .n) ≤ length (b .strands))
   where
     abbrev accepted : List Process → ℕ
-    accepted turns = acceptedTurns (shapeIn b) (sentIn b) (receivedIn b) (atStart b) turns
+    accepted turns = acceptedTurns (shapeLeft b) (sentLeft b) (receivedLeft b) (atStart b) turns
 
     abbrev Reached : List Process → Type 0
     Reached turns =
@@ -49,11 +49,11 @@ module _
       subst (λ (l : List Process). AtEnd b l) (sym (append-nil turns)) e,
     )
 
-    reached : (left : ℕ) (turns : List Process) → mostDelivered (viewIn b) ≤ accepted turns + left → Reached turns
+    reached : (left : ℕ) (turns : List Process) → mostDelivered (viewLeft b) ≤ accepted turns + left → Reached turns
     reached zero turns many = at-once turns (comes-to-end b a h room turns (omega arith))
     reached (suc left) turns many =
         ⊎-elim
-        (λ (all : (j : ℕ) → j < shapeIn b .n → hasEnded (after b turns .session) j ≡ true).
+        (λ (all : (j : ℕ) → j < shapeLeft b .n → hasEnded (after b turns .session) j ≡ true).
         at-once turns (λ j small. (all j small, demand-3 b a h turns .ended-on-line j small (all j small))))
         (λ (next : (p : Process) × (nextQuestion b turns p ≡ 0)).
         go (next .0) (next .1)
@@ -62,9 +62,9 @@ module _
       where
         one-more : (p : Process) → nextQuestion b turns p ≡ 0 → accepted (turns ++ (p ∷ [])) ≡ accepted turns + 1
         one-more p e =
-            let counted : _≡_ {A = ℕ} (pick (turnAccepted (shapeIn b) (sentIn b) (receivedIn b) (after b turns) p) 1 0) 1 =
+            let counted : _≡_ {A = ℕ} (pick (turnAccepted (shapeLeft b) (sentLeft b) (receivedLeft b) (after b turns) p) 1 0) 1 =
             rw (eq-eqb (nextQuestion b turns p) 0 e) in
-            omega (arith, accepted-more (shapeIn b) (sentIn b) (receivedIn b) turns (atStart b) p, counted)
+            omega (arith, accepted-more (shapeLeft b) (sentLeft b) (receivedLeft b) turns (atStart b) p, counted)
 
         go : (p : Process) → nextQuestion b turns p ≡ 0 → Reached (turns ++ (p ∷ [])) → Reached turns
         go p e r = (
@@ -76,6 +76,6 @@ module _
 
 pub end-is-reached : EndIsReached
 end-is-reached b a h room turns =
-    let r = reached b a h room (mostDelivered (viewIn b)) turns (omega arith) in
+    let r = reached b a h room (mostDelivered (viewLeft b)) turns (omega arith) in
     let all = demand-3 b a h (turns ++ r .0) in
     (r .0, r .1, omega (arith, r .1, all .few-delivered, all .delivered), r .2)

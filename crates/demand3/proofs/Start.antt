@@ -25,7 +25,7 @@ use Rattle.message.specs.Formed.{isNamed, isPurpose}
 use Rattle.mail.specs.Outgoing.{bytesTo}
 use Rattle.machine.specs.Own.{Own}
 use Rattle.machine.specs.Flags.{someone, participants, nobody}
-use Rattle.initiator.specs.Begin.{wait, idle, search, begin}
+use Rattle.initiator.specs.Begin.{wait, withoutWait, beginSearch, begin}
 use Rattle.exchange_laws.specs.Ends.{isSearch}
 use Rattle.strands.specs.Strands.{haveRoom, posted}
 use Rattle.session.specs.declared.Session.{Session}
@@ -37,7 +37,7 @@ use Rattle.session_theory.proofs.Moves.{begins, ToParticipants}
 use Rattle.machine_laws.proofs.Flags.{flagged-none}
 use Rattle.search_start.proofs.Alone.{flag-nobody}
 use Rattle.search_start.proofs.Start.{none-delivered}
-use Rattle.demand3.specs.Statement.{Beginning, shapeIn, sentIn, receivedIn, IsAccepted, Searches, atStart, startWaits}
+use Rattle.demand3.specs.Statement.{Beginning, shapeLeft, sentLeft, receivedLeft, IsAccepted, Searches, atStart, startWaits}
 use Rattle.demand3.specs.Beside.{StartHasRoom}
 use Rattle.strand_laws.proofs.Theorems.{laid-begun}
 use Rattle.search_start.proofs.Theorems.{search-begins, restart-begins}
@@ -48,9 +48,9 @@ use Rattle.demand3.proofs.Purposes.{InSession, kept-in, begins-in, star
 abbrev pub searchOf : Beginning → Search
 searchOf b =
     record {
-      shape = shapeIn b;
-      sent = sentIn b;
-      received = receivedIn b;
+      shape = shapeLeft b;
+      sent = sentLeft b;
+      received = receivedLeft b;
       initiator = b .initiator;
       purpose = b .purpose;
     }
@@ -71,13 +71,13 @@ none-awaited = flagged-none nobody flag-nobody
 -- a search's first round is counted where somebody is awaited after the start
 first-round : (own : Own) (me : Process) (purpose : ℕ) → eqb purpose 2 ≡ false
     → begin own me purpose .state .rounds ≡ pick (someone (begin own me purpose .state .awaited)) 1 0
-unfolding begin search wait idle
+unfolding begin beginSearch wait withoutWait
 first-round own me purpose other = go (someone (participants (own .n) (me .0 - 1))) refl
   where
     go : (v : Bool) → someone (participants (own .n) (me .0 - 1)) ≡ v
         → begin own me purpose .state .rounds ≡ pick (someone (begin own me purpose .state .awaited)) 1 0
-    go true e = rw (begin, other, search, e) (sym (ap (λ (v : Bool). pick v 1 0) e))
-    go false e = rw (begin, other, search, e) (sym (ap (λ (v : Bool). pick v 1 0) none-awaited))
+    go true e = rw (begin, other, beginSearch, e) (sym (ap (λ (v : Bool). pick v 1 0) e))
+    go false e = rw (begin, other, beginSearch, e) (sym (ap (λ (v : Bool). pick v 1 0) none-awaited))
 
 one-round : (g : Search) → eqb (g .purpose) 2 ≡ false
     → withPosted (begins g) .machine .rounds ≡ pick (someone (withPosted (begins g) .machine .awaited)) 1 0
@@ -94,7 +94,7 @@ no-restart purpose (inr e) = rw e
 
 -- an accepted read leaves tables that anybody can begin a session on, with any purpose
 pub read-search : (b : Beginning) → readQuestion (b .bytes) (b .sent) (b .received) ≡ 0
-    → isNamed (shapeIn b .n) (b .initiator .0) ≡ true → isPurpose (b .purpose) ≡ true → IsSearch (searchOf b)
+    → isNamed (shapeLeft b .n) (b .initiator .0) ≡ true → isPurpose (b .purpose) ≡ true → IsSearch (searchOf b)
 read-search b read named purposed =
     let good : Good mark (bookRead (b .bytes)) = read-good (b .bytes) (b .sent) (b .received) read in
     let counts : List ℕ = countsOf (bookRead (b .bytes) .processes) in

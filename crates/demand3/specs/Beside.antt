@@ -16,40 +16,40 @@ use Rattle.session.specs.Workers.{standsOn, hasEnded, waitsOn}
 use Rattle.session.specs.Held.{waitingBytes}
 use Rattle.session.specs.Calls.{startQuestion}
 use Rattle.session.specs.Turns.{Ongoing, afterTurn, acceptedTurns, bringsLast}
-use Rattle.demand3.specs.Statement.{Beginning, shapeIn, sentIn, receivedIn, viewIn, IsAccepted, Searches, atStart, after, nextQuestion, messageWaits, someoneGoesOn, mostDelivered}
+use Rattle.demand3.specs.Statement.{Beginning, shapeLeft, sentLeft, receivedLeft, viewLeft, IsAccepted, Searches, atStart, after, nextQuestion, messageWaits, someoneGoesOn, mostDelivered}
 
 -- Room for all strands, (n − 1) × (6n − 2) bytes, suffices for the start too, with any purpose.
 abbrev pub StartHasRoom : Type 0
 StartHasRoom =
     (b : Beginning) → readQuestion (b .bytes) (b .sent) (b .received) ≡ 0
-    → isNamed (shapeIn b .n) (b .initiator .0) ≡ true → isPurpose (b .purpose) ≡ true
-    → roomForAll (shapeIn b .n) ≤ length (b .strands)
-    → startQuestion (shapeIn b) (sentIn b) (receivedIn b) (b .initiator) (b .purpose) (b .strands) ≡ 0
+    → isNamed (shapeLeft b .n) (b .initiator .0) ≡ true → isPurpose (b .purpose) ≡ true
+    → roomForAll (shapeLeft b .n) ≤ length (b .strands)
+    → startQuestion (shapeLeft b) (sentLeft b) (receivedLeft b) (b .initiator) (b .purpose) (b .strands) ≡ 0
 
 -- With room, some turn is accepted for as long as some worker has not ended,
 abbrev pub GoesOn : Type 0
 GoesOn =
-    (b : Beginning) → IsAccepted b → Searches b → roomForAll (shapeIn b .n) ≤ length (b .strands) → (turns : List Process)
-    → ((j : ℕ) → j < shapeIn b .n → hasEnded (after b turns .session) j ≡ true)
+    (b : Beginning) → IsAccepted b → Searches b → roomForAll (shapeLeft b .n) ≤ length (b .strands) → (turns : List Process)
+    → ((j : ℕ) → j < shapeLeft b .n → hasEnded (after b turns .session) j ≡ true)
     ⊎ ((p : Process) × (nextQuestion b turns p ≡ 0))
 
 -- after a list every worker has ended, on the line
 abbrev pub AtEnd : Beginning → List Process → Type 0
 AtEnd b turns =
-    (j : ℕ) → j < shapeIn b .n
-    → (hasEnded (after b turns .session) j ≡ true) × (standsOn (after b turns .session) j ≡ line (viewIn b) j)
+    (j : ℕ) → j < shapeLeft b .n
+    → (hasEnded (after b turns .session) j ≡ true) × (standsOn (after b turns .session) j ≡ line (viewLeft b) j)
 
 abbrev pub acceptedIn : Beginning → List Process → ℕ
-acceptedIn b turns = acceptedTurns (shapeIn b) (sentIn b) (receivedIn b) (atStart b) turns
+acceptedIn b turns = acceptedTurns (shapeLeft b) (sentLeft b) (receivedLeft b) (atStart b) turns
 
 -- so that from every list on there are further turns, each of them accepted, after which every worker has ended, on the line.
 -- With those accepted before they are at most as many as demand 3 allows.
 abbrev pub EndIsReached : Type 0
 EndIsReached =
-    (b : Beginning) → IsAccepted b → Searches b → roomForAll (shapeIn b .n) ≤ length (b .strands) → (turns : List Process)
+    (b : Beginning) → IsAccepted b → Searches b → roomForAll (shapeLeft b .n) ≤ length (b .strands) → (turns : List Process)
     → (more : List Process)
     × (acceptedIn b (turns ++ more) ≡ acceptedIn b turns + length more)
-    × (acceptedIn b turns + length more ≤ mostDelivered (viewIn b))
+    × (acceptedIn b turns + length more ≤ mostDelivered (viewLeft b))
     × AtEnd b (turns ++ more)
 
 -- after the list the turn naming p is accepted, and so delivers the message on the strand of process k, counted from 0
@@ -61,9 +61,9 @@ DeliversOn b turns p k = (nextQuestion b turns p ≡ 0) × (p .0 ≡ suc k)
 abbrev pub StaysUntilDelivered : Type 0
 StaysUntilDelivered =
     (b : Beginning) → IsAccepted b → (turns : List Process) (p : Process) (k : ℕ)
-    → let n : ℕ = shapeIn b .n in
+    → let n : ℕ = shapeLeft b .n in
     let before : Ongoing = after b turns in
-    let next : Ongoing = afterTurn (shapeIn b) (sentIn b) (receivedIn b) before p in
+    let next : Ongoing = afterTurn (shapeLeft b) (sentLeft b) (receivedLeft b) before p in
     (DeliversOn b turns p k → ⊥) → waitsOn (before .session) k ≡ true
     → (waitsOn (next .session) k ≡ true)
     × (waitingBytes n (next .session) (next .strands) k ≡ waitingBytes n (before .session) (before .strands) k)
@@ -73,26 +73,26 @@ StaysUntilDelivered =
 abbrev pub LeavesOthers : Type 0
 LeavesOthers =
     (b : Beginning) → IsAccepted b → (turns : List Process) (p : Process) (k : ℕ)
-    → let n : ℕ = shapeIn b .n in
+    → let n : ℕ = shapeLeft b .n in
     let before : Ongoing = after b turns in
-    let next : Ongoing = afterTurn (shapeIn b) (sentIn b) (receivedIn b) before p in
+    let next : Ongoing = afterTurn (shapeLeft b) (sentLeft b) (receivedLeft b) before p in
     isParticipant n (b .initiator .0 - 1) k ≡ true → (DeliversOn b turns p k → ⊥)
-    → (nextQuestion b turns p ≡ 0 → bringsLast (shapeIn b) (sentIn b) (receivedIn b) before p ≡ false)
+    → (nextQuestion b turns p ≡ 0 → bringsLast (shapeLeft b) (sentLeft b) (receivedLeft b) before p ≡ false)
     → waitingBytes n (next .session) (next .strands) k ≡ waitingBytes n (before .session) (before .strands) k
 
 -- Purpose 2: after n − 1 accepted turns everybody has ended on checkpoint 1, and nothing waits. For as long as some worker has not
 -- ended a message waits, and a turn on a strand where one waits is always accepted.
 pub record RestartHolds (b : Beginning) (turns : List Process) : Type 0 where
   -- "a message waits exactly when some worker has not ended"
-  pub waits-exactly : messageWaits (after b turns .session) ≡ someoneGoesOn (shapeIn b .n) (after b turns .session)
-  pub few-delivered : acceptedTurns (shapeIn b) (sentIn b) (receivedIn b) (atStart b) turns ≤ shapeIn b .n - 1
-  pub delivered : after b turns .session .delivered ≡ acceptedTurns (shapeIn b) (sentIn b) (receivedIn b) (atStart b) turns
+  pub waits-exactly : messageWaits (after b turns .session) ≡ someoneGoesOn (shapeLeft b .n) (after b turns .session)
+  pub few-delivered : acceptedTurns (shapeLeft b) (sentLeft b) (receivedLeft b) (atStart b) turns ≤ shapeLeft b .n - 1
+  pub delivered : after b turns .session .delivered ≡ acceptedTurns (shapeLeft b) (sentLeft b) (receivedLeft b) (atStart b) turns
   pub no-round : after b turns .session .machine .rounds ≡ 0
   pub on-oldest :
-      (j : ℕ) → j < shapeIn b .n → hasEnded (after b turns .session) j ≡ true → standsOn (after b turns .session) j ≡ 1
+      (j : ℕ) → j < shapeLeft b .n → hasEnded (after b turns .session) j ≡ true → standsOn (after b turns .session) j ≡ 1
   pub all-ended :
-      acceptedTurns (shapeIn b) (sentIn b) (receivedIn b) (atStart b) turns ≡ shapeIn b .n - 1
-      → ((j : ℕ) → j < shapeIn b .n → hasEnded (after b turns .session) j ≡ true)
+      acceptedTurns (shapeLeft b) (sentLeft b) (receivedLeft b) (atStart b) turns ≡ shapeLeft b .n - 1
+      → ((j : ℕ) → j < shapeLeft b .n → hasEnded (after b turns .session) j ≡ true)
       × (messageWaits (after b turns .session) ≡ false)
   pub accepted :
       (p : Process) → 1 ≤ p .0 → waitsOn (after b turns .session) (p .0 - 1) ≡ true → nextQuestion b turns p ≡ 0

@@ -12,8 +12,8 @@ use Rattle.book.specs.declared.Process.{Process}
 use Rattle.book.specs.Bounds.{mostProcesses}
 use Rattle.book.specs.Read.{readQuestion, shapeRead, sentRead, receivedRead}
 use Rattle.line_theory.specs.Over.{allTo}
-use Rattle.line_theory.specs.Sets.{View, IsSet, Consistent, passed}
-use Rattle.line_theory.specs.Search.{line}
+use Rattle.line_theory.specs.Sets.{View, IsSet, Consistent}
+use Rattle.line_theory.specs.Search.{line, passed}
 use Rattle.line_theory.specs.OfTables.{viewOf}
 use Rattle.matrix.specs.Matrix.{pick}
 use Rattle.machine.specs.Flags.{someone}
@@ -34,22 +34,22 @@ pub record Beginning : Type 0 where
   pub strands : List ℕ
 
 -- the tables that the read leaves
-abbrev pub shapeIn : Beginning → Shape
-shapeIn b = shapeRead (b .bytes) (b .sent) (b .received)
+abbrev pub shapeLeft : Beginning → Shape
+shapeLeft b = shapeRead (b .bytes) (b .sent) (b .received)
 
-abbrev pub sentIn : Beginning → List ℕ
-sentIn b = sentRead (b .bytes) (b .sent) (b .received)
+abbrev pub sentLeft : Beginning → List ℕ
+sentLeft b = sentRead (b .bytes) (b .sent) (b .received)
 
-abbrev pub receivedIn : Beginning → List ℕ
-receivedIn b = receivedRead (b .bytes) (b .sent) (b .received)
+abbrev pub receivedLeft : Beginning → List ℕ
+receivedLeft b = receivedRead (b .bytes) (b .sent) (b .received)
 
-abbrev pub viewIn : Beginning → View
-viewIn b = viewOf (shapeIn b) (sentIn b) (receivedIn b)
+abbrev pub viewLeft : Beginning → View
+viewLeft b = viewOf (shapeLeft b) (sentLeft b) (receivedLeft b)
 
 -- the read and the start are accepted
 pub record IsAccepted (b : Beginning) : Type 0 where
   pub read : readQuestion (b .bytes) (b .sent) (b .received) ≡ 0
-  pub start : startQuestion (shapeIn b) (sentIn b) (receivedIn b) (b .initiator) (b .purpose) (b .strands) ≡ 0
+  pub start : startQuestion (shapeLeft b) (sentLeft b) (receivedLeft b) (b .initiator) (b .purpose) (b .strands) ≡ 0
 
 -- "a search for the line (no bare restart)": "Purposes 1 and 3 search."
 abbrev pub Searches : Beginning → Type 0
@@ -57,15 +57,15 @@ Searches b = (b .purpose ≡ 1) ⊎ (b .purpose ≡ 3)
 
 -- the session and the strands as the start leaves them, and after a list of turns
 abbrev pub atStart : Beginning → Ongoing
-atStart b = started (shapeIn b) (sentIn b) (receivedIn b) (b .initiator) (b .purpose) (b .strands)
+atStart b = started (shapeLeft b) (sentLeft b) (receivedLeft b) (b .initiator) (b .purpose) (b .strands)
 
 abbrev pub after : Beginning → List Process → Ongoing
-after b turns = afterTurns (shapeIn b) (sentIn b) (receivedIn b) (atStart b) turns
+after b turns = afterTurns (shapeLeft b) (sentLeft b) (receivedLeft b) (atStart b) turns
 
 -- the question that a turn naming p would fail then
 abbrev pub nextQuestion : Beginning → List Process → Process → ℕ
 nextQuestion b turns p =
-    turnQuestion (shapeIn b) (sentIn b) (receivedIn b) (after b turns .session) p (after b turns .strands)
+    turnQuestion (shapeLeft b) (sentLeft b) (receivedLeft b) (after b turns .session) p (after b turns .strands)
 
 -- a message waits on some strand
 abbrev pub messageWaits : Session → Bool
@@ -75,13 +75,9 @@ messageWaits session = not (allTo mostProcesses (λ k. not (waitsOn session k)))
 abbrev pub someoneGoesOn : ℕ → Session → Bool
 someoneGoesOn n session = not (allTo n (hasEnded session))
 
--- T: "the number of checkpoints newer than the line's, summed"
-abbrev pub newer : View → ℕ
-newer v = passed v (line v)
-
 -- "At most (n − 1) × (2T + 5) messages have been delivered."
 abbrev pub mostDelivered : View → ℕ
-mostDelivered v = (v .n - 1) * (2 * newer v + 5)
+mostDelivered v = (v .n - 1) * (2 * passed v + 5)
 
 -- the start is one of the calls with which a wait begins, where somebody is awaited then
 abbrev pub startWaits : Beginning → ℕ
@@ -90,30 +86,30 @@ startWaits b = pick (someone (atStart b .session .machine .awaited)) 1 0
 -- after the list
 pub record HoldsAfter (b : Beginning) (turns : List Process) : Type 0 where
   -- "a message waits exactly when some worker has not ended"
-  pub waits-exactly : messageWaits (after b turns .session) ≡ someoneGoesOn (shapeIn b .n) (after b turns .session)
+  pub waits-exactly : messageWaits (after b turns .session) ≡ someoneGoesOn (shapeLeft b .n) (after b turns .session)
   -- "The messages delivered are the accepted turns of the list, and the session's count equals their number."
   pub delivered :
-      after b turns .session .delivered ≡ acceptedTurns (shapeIn b) (sentIn b) (receivedIn b) (atStart b) turns
+      after b turns .session .delivered ≡ acceptedTurns (shapeLeft b) (sentLeft b) (receivedLeft b) (atStart b) turns
   -- "At most (n − 1) × (2T + 5) messages have been delivered,"
-  pub few-delivered : after b turns .session .delivered ≤ mostDelivered (viewIn b)
+  pub few-delivered : after b turns .session .delivered ≤ mostDelivered (viewLeft b)
   -- "A round is one wait of at least one report, counted as the wait begins."
   pub rounds :
       after b turns .session .machine .rounds
-      ≡ startWaits b + waitsBegun (shapeIn b) (sentIn b) (receivedIn b) (atStart b) turns
+      ≡ startWaits b + waitsBegun (shapeLeft b) (sentLeft b) (receivedLeft b) (atStart b) turns
   -- (not in demand 3's own words; 01 wants the count of rounds too "bounded in demand 3")
-  pub few-rounds : after b turns .session .machine .rounds ≤ newer (viewIn b) + 2
+  pub few-rounds : after b turns .session .machine .rounds ≤ passed (viewLeft b) + 2
   -- "No worker stands on a checkpoint earlier than the line's,"
-  pub none-below : (j : ℕ) → j < shapeIn b .n → line (viewIn b) j ≤ standsOn (after b turns .session) j
+  pub none-below : (j : ℕ) → j < shapeLeft b .n → line (viewLeft b) j ≤ standsOn (after b turns .session) j
   -- "and every worker that has ended stands on the line's."
   pub ended-on-line :
-      (j : ℕ) → j < shapeIn b .n → hasEnded (after b turns .session) j ≡ true
-      → standsOn (after b turns .session) j ≡ line (viewIn b) j
+      (j : ℕ) → j < shapeLeft b .n → hasEnded (after b turns .session) j ≡ true
+      → standsOn (after b turns .session) j ≡ line (viewLeft b) j
   -- The line is a consistent set. "Every other consistent set of that book has, at every worker, the line's checkpoint or an
   -- earlier one."
-  pub line-set : IsSet (viewIn b) (line (viewIn b))
-  pub line-consistent : Consistent (viewIn b) (line (viewIn b))
+  pub line-set : IsSet (viewLeft b) (line (viewLeft b))
+  pub line-consistent : Consistent (viewLeft b) (line (viewLeft b))
   pub latest :
-      (c : ℕ → ℕ) → IsSet (viewIn b) c → Consistent (viewIn b) c → (j : ℕ) → j < shapeIn b .n → c j ≤ line (viewIn b) j
+      (c : ℕ → ℕ) → IsSet (viewLeft b) c → Consistent (viewLeft b) c → (j : ℕ) → j < shapeLeft b .n → c j ≤ line (viewLeft b) j
   -- "a turn naming a strand on which a message waits is refused by question 17 or not at all,"
   pub accepted-or-full :
       (p : Process) → 1 ≤ p .0 → waitsOn (after b turns .session) (p .0 - 1) ≡ true
@@ -121,7 +117,7 @@ pub record HoldsAfter (b : Beginning) (turns : List Process) : Type 0 where
   -- "and not by 17 where the bytes lent have room for the longest messages that this layout lets wait at once"
   pub with-room :
       (p : Process) → 1 ≤ p .0 → waitsOn (after b turns .session) (p .0 - 1) ≡ true
-      → roomForAll (shapeIn b .n) ≤ length (b .strands) → nextQuestion b turns p ≡ 0
+      → roomForAll (shapeLeft b .n) ≤ length (b .strands) → nextQuestion b turns p ≡ 0
 
 -- Demand 3 is one claim over every such list.
 abbrev pub Demand3 : Type 0

@@ -22,7 +22,7 @@ use Rattle.consistency.specs.Set.{Tested}
 use Rattle.finder.specs.Line.{lineFound, passedFound}
 use Rattle.restart.specs.Calls.{moveQuestion, shapeMoved}
 use Rattle.session_examples.specs.Books.{lent, setOf, k1, k6, laterCounter, largestCounter}
-use Rattle.session_examples.specs.Outcome.{searchedIn, ended}
+use Rattle.session_examples.specs.Outcome.{searchedIn, endedOn}
 
 -- ---- what can be claimed
 
@@ -85,7 +85,7 @@ holds (NotConsistent book set j p) =
     answers book set shown × ((answer : SetAnswer) → answers book set answer → answer ≡ shown)
 holds (HasLine book line passed) = found book ≡ (answer.Accepted, setOf line, passed)
 holds (Searched book initiator line rounds messages) =
-    searchedIn book initiator ≡ ended line rounds messages
+    searchedIn book initiator ≡ endedOn line rounds messages
 holds (MovedTo book purpose counts) = movedIn book purpose ≡ (answer.Accepted, padded mostProcesses counts)
 
 -- all of a list hold

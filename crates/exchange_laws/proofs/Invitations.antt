@@ -25,7 +25,7 @@ use Rattle.participant.specs.declared.Participant.{Participant}
 use Rattle.participant.specs.declared.Stage.the-variants.{Before}
 use Rattle.participant.specs.Step.{step}
 use Rattle.participant_laws.specs.Accepts.{endsIt}
-use Rattle.initiator.specs.Begin.{search, restart}
+use Rattle.initiator.specs.Begin.{beginSearch, beginRestart}
 use Rattle.initiator_laws.proofs.Begun.{search-matrix}
 use Rattle.initiator_laws.proofs.Sends.{no-pairs, sent-low, begun-fallen, invitation-at}
 use Rattle.initiator_laws.proofs.Theorems.{invitation-is-diff}
@@ -40,7 +40,7 @@ use Rattle.exchange_laws.proofs.Receivers.{column-taken, nothing-told, 
 -- ---- to a restart
 
 pub restart-passes : RestartPasses
-unfolding restart invitationFormed
+unfolding beginRestart invitationFormed
 restart-passes n me receiver few part =
     let p : ℕ = receiver .me .0 - 1 in
     let none : pairCount (row noPairs p) ≡ 0 = no-pairs (row noPairs p) (nothing-told p (me-within n me 2 Before receiver few part)) in
@@ -59,10 +59,10 @@ module _ (own : Own) (me : Process) (purpose : ℕ) (receiver : Participant) (is
   from = me .0 - 1
 
   abbrev m : Message
-  m = messageDown (search own me purpose .outgoing) receiver
+  m = messageDown (beginSearch own me purpose .outgoing) receiver
 
   abbrev matrix : List Count
-  matrix = search own me purpose .state .matrix
+  matrix = beginSearch own me purpose .state .matrix
 
   there : p < own .n
   there = me-there (own .n) me purpose Before receiver (is .most) part
@@ -95,16 +95,16 @@ module _ (own : Own) (me : Process) (purpose : ℕ) (receiver : Participant) (is
       (λ k i ne. invitation-at own me purpose p within k i ∙ ap (λ (t : Bool). pick t (own .S (own .count) p) mark) (ne-eqb k from ne))
 
   one-formed : invitationFormed m ≡ true
-  unfolding search invitationFormed
+  unfolding beginSearch invitationFormed
   one-formed =
       subst (λ (t : Bool). invitationPairs t (pairCount (m .news)) (counters (m .news) from) ≡ true) (sym (search-in purpose searches .1))
       (both-and (eqb (pairCount (m .news)) 1) (isNews (counters (m .news) from)) (eq-eqb (pairCount (m .news)) 1 one)
       (ap not (ne-eqb (counters (m .news) from) mark own-pair)))
 
-  passes : SameEntries (receiver .column) (notKnownRow (own .n) p) → PassesDown (own .n) (search own me purpose .outgoing) receiver
-  unfolding search
+  passes : SameEntries (receiver .column) (notKnownRow (own .n) p) → PassesDown (own .n) (beginSearch own me purpose .outgoing) receiver
+  unfolding beginSearch
   passes same =
-      passes-down (own .n) (search own me purpose .outgoing) receiver (is .most) (part .named)
+      passes-down (own .n) (beginSearch own me purpose .outgoing) receiver (is .most) (part .named)
       (sent-to-all (own .n) me purpose Before receiver (is .most) part)
       (diff-formed (column matrix p) (notKnownRow (own .n) p) fallen (own .n) (receiver .me .0) m
       (me-some (own .n) me purpose Before receiver (is .most) part) told (not-known-rest (own .n) p)
@@ -115,7 +115,7 @@ module _ (own : Own) (me : Process) (purpose : ℕ) (receiver : Participant) (is
       (received-lower (column matrix p) (notKnownRow (own .n) p) fallen (receiver .column) same))
 
   going : endsIt m ≡ false
-  unfolding search
+  unfolding beginSearch
   going = rw (search-in purpose searches .1)
 
   taken : SameEntries (receiver .column) (notKnownRow (own .n) p) → (its : Own)

@@ -17,7 +17,7 @@ use Rattle.participant.specs.declared.Stage.the-variants.{Before}
 use Rattle.participant.specs.Step as participant
 use Rattle.participant_laws.specs.Accepts.{Accepts, endsIt}
 use Rattle.initiator.specs.declared.Initiator.{Initiator}
-use Rattle.initiator.specs.Begin.{search, restart}
+use Rattle.initiator.specs.Begin.{beginSearch, beginRestart}
 use Rattle.initiator.specs.Step as initiator
 use Rattle.initiator.specs.Step.{takeReport, polled, poll, terminate}
 use Rattle.exchange_laws.specs.Ends.{SameEntries, messageDown, PassesDown, TakesPart, IsInvited, SearchesWith, HoldsCopy, messageUp, PassesUp, WaitsFor}
@@ -28,13 +28,13 @@ use Rattle.exchange_laws.specs.Ends.{SameEntries, messageDown, PassesDow
 abbrev pub InvitationPasses : Type 0
 InvitationPasses =
     (own : Own) (me : Process) (purpose : ℕ) (receiver : Participant) → IsInvited own me purpose receiver
-    → PassesDown (own .n) (search own me purpose .outgoing) receiver
+    → PassesDown (own .n) (beginSearch own me purpose .outgoing) receiver
 
 -- The invitation to a restart passes at every participant that awaits it.
 abbrev pub RestartPasses : Type 0
 RestartPasses =
     (n : ℕ) (me : Process) (receiver : Participant) → n ≤ mostProcesses → TakesPart n me 2 Before receiver
-    → PassesDown n (restart n me 2 .outgoing) receiver
+    → PassesDown n (beginRestart n me 2 .outgoing) receiver
 
 -- A report passes at the initiator that awaits it and holds the row reported before.
 abbrev pub ReportPasses : Type 0
@@ -64,8 +64,8 @@ abbrev pub InvitationTaken : Type 0
 InvitationTaken =
     (own : Own) (me : Process) (purpose : ℕ) (receiver : Participant) → IsInvited own me purpose receiver
     → (its : Own)
-    → SameEntries (participant.step its receiver (messageDown (search own me purpose .outgoing) receiver) .state .column)
-    (column (search own me purpose .state .matrix) (receiver .me .0 - 1))
+    → SameEntries (participant.step its receiver (messageDown (beginSearch own me purpose .outgoing) receiver) .state .column)
+    (column (beginSearch own me purpose .state .matrix) (receiver .me .0 - 1))
 
 -- and so it is after a poll.
 abbrev pub PollTaken : Type 0

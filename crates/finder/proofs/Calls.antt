@@ -8,7 +8,7 @@ use Rattle.book.specs.declared.Shape.{Shape}
 use Rattle.book.specs.View.{count}
 use Rattle.book.specs.Check.{tablesQuestion}
 use Rattle.book.proofs.Questions.{kept-passed, kept-refused}
-use Rattle.line_theory.specs.Sets.{View, IsSet, passed, cut}
+use Rattle.line_theory.specs.Sets.{View, IsSet, newerThan, cut}
 use Rattle.line_theory.specs.Search.{line}
 use Rattle.line_theory.specs.OfTables.{viewOf}
 use Rattle.line_theory.proofs.Accepted.{accepted-absent, accepted-is-book}
@@ -37,7 +37,7 @@ module _ (shape : Shape) (sent received : List ℕ) (sixteen : length (shape .co
       let v : View = viewOf shape sent received in
       let whole : IsLineOf v found = subst (λ (c : ℕ → ℕ). IsLineOf (cut v c) found) chosen-newest h in (
         whole .0 ∙ sym (kept-passed (tablesQuestion shape sent received) noLine (checkpoints (line v)) none),
-        whole .1 ∙ sym (kept-passed (tablesQuestion shape sent received) 0 (passed v (line v)) none),
+        whole .1 ∙ sym (kept-passed (tablesQuestion shape sent received) 0 (newerThan v (line v)) none),
       )
 
 pub line-refused : (shape : Shape) (sent received : List ℕ) → (tablesQuestion shape sent received ≡ 0 → ⊥)
@@ -46,5 +46,5 @@ unfolding lineFound passedFound
 line-refused shape sent received h =
     let v : View = viewOf shape sent received in (
       sym (kept-refused (tablesQuestion shape sent received) noLine (checkpoints (line v)) h),
-      sym (kept-refused (tablesQuestion shape sent received) 0 (passed v (line v)) h),
+      sym (kept-refused (tablesQuestion shape sent received) 0 (newerThan v (line v)) h),
     )

@@ -14,7 +14,7 @@ use Rattle.book.specs.View.{sum, count}
 use Rattle.book.specs.Fits.{Placed}
 use Rattle.book.proofs.Sums.{sum-more, sum-take}
 use Rattle.line_theory.specs.Over.{sumTo}
-use Rattle.line_theory.specs.Sets.{View, IsBook, passed, cut}
+use Rattle.line_theory.specs.Sets.{View, IsBook, newerThan, cut}
 use Rattle.line_theory.specs.Search.{line}
 use Rattle.line_theory.specs.OfTables.{viewOf}
 use Rattle.line_theory.proofs.Over.{sum-le, sum-at}
@@ -147,7 +147,7 @@ module _ {rows : TableRows} {sent received : List ℕ} {start : List Checkpoint}
         }
 
   pub found-ended : rows .shape .n ≤ j → (s : List Checkpoint) → length s ≡ 16 → SameSet (rows .shape .n) (chosen s) (setAt (rows .shape .counts) at)
-      → AbsentZero rows s → let v : View = cut (viewOf (rows .shape) sent received) (chosen start) in (s ≡ checkpoints (line v)) × (steps ≡ passed v (line v))
+      → AbsentZero rows s → let v : View = cut (viewOf (rows .shape) sent received) (chosen start) in (s ≡ checkpoints (line v)) × (steps ≡ newerThan v (line v))
   found-ended all s sixteen same absent =
       let v : View = cut (viewOf (rows .shape) sent received) (chosen start) in
       let done = ended (start-book (now .given)) (now .searching) (λ p k. now .next .before p (omega arith)) in (

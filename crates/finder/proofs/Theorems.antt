@@ -8,7 +8,7 @@ use Rattle.book.specs.declared.Shape.{Shape}
 use Rattle.book.specs.Bounds.{mark}
 use Rattle.book.specs.Check.{tablesQuestion}
 use Rattle.book.proofs.Questions.{kept-passed}
-use Rattle.line_theory.specs.Sets.{View, IsLine, passed}
+use Rattle.line_theory.specs.Sets.{View, IsLine, newerThan}
 use Rattle.line_theory.specs.Search.{line}
 use Rattle.line_theory.specs.OfTables.{viewOf}
 use Rattle.line_theory.proofs.Accepted.{accepted-size}
@@ -29,15 +29,15 @@ found-numbers shape sent received none =
     ∙ chosen-of (line v) (λ j k. line-absent v j (omega (arith, accepted-size shape sent received none .1)))
 
 found-passed : (shape : Shape) (sent received : List ℕ) → tablesQuestion shape sent received ≡ 0
-    → passedFound shape sent received ≡ passed (viewOf shape sent received) (line (viewOf shape sent received))
+    → passedFound shape sent received ≡ newerThan (viewOf shape sent received) (line (viewOf shape sent received))
 unfolding passedFound
 found-passed shape sent received none =
     let v : View = viewOf shape sent received in
-    kept-passed (tablesQuestion shape sent received) 0 (passed v (line v)) none
+    kept-passed (tablesQuestion shape sent received) 0 (newerThan v (line v)) none
 
 pub found-is-line : FoundIsLine
 found-is-line shape sent received sixteen none =
     let v : View = viewOf shape sent received in
-    let P : (ℕ → ℕ) → Type 0 = λ c. IsLine v c × ((j : ℕ) → shape .n ≤ j → c j ≡ 0) × (passedFound shape sent received ≡ passed v c) in
+    let P : (ℕ → ℕ) → Type 0 = λ c. IsLine v c × ((j : ℕ) → shape .n ≤ j → c j ≡ 0) × (passedFound shape sent received ≡ newerThan v c) in
     subst P (sym (found-numbers shape sent received none))
     (line-is-line mark v (accepted-is-book shape sent received sixteen none), λ j k. line-absent v j k, found-passed shape sent received none)

@@ -10,8 +10,8 @@ use Rattle.book.specs.Bounds.{mostProcesses}
 use Rattle.book.specs.InTurn.{unlessRefused}
 use Rattle.book.specs.Check.{tablesQuestion}
 use Rattle.line_theory.specs.Over.{tab}
-use Rattle.line_theory.specs.Sets.{View, passed}
-use Rattle.line_theory.specs.Search.{line}
+use Rattle.line_theory.specs.Sets.{View}
+use Rattle.line_theory.specs.Search.{line, passed}
 use Rattle.line_theory.specs.OfTables.{viewOf}
 use Rattle.finder.specs.declared.Line.{Line}
 
@@ -29,9 +29,8 @@ lineFound shape sent received =
 
 unfoldable pub passedFound : Shape → List ℕ → List ℕ → ℕ
 passedFound shape sent received =
-    let v : View = viewOf shape sent received in
-    unlessRefused (tablesQuestion shape sent received) 0 (passed v (line v))
+    unlessRefused (tablesQuestion shape sent received) 0 (passed (viewOf shape sent received))
 
 -- the line of a book, cut to the set that a search starts from, and how far it is from that set
 abbrev pub IsLineOf : View → Line → Type 0
-IsLineOf v found = (found .set ≡ checkpoints (line v)) × (found .passed ≡ passed v (line v))
+IsLineOf v found = (found .set ≡ checkpoints (line v)) × (found .passed ≡ passed v)

@@ -6,7 +6,7 @@ use lib.ListN.{length}
 use Rattle.book.specs.declared.Shape.{Shape}
 use Rattle.book.specs.Bounds.{mostProcesses}
 use Rattle.book.specs.Check.{tablesQuestion}
-use Rattle.line_theory.specs.Sets.{View, IsLine, passed}
+use Rattle.line_theory.specs.Sets.{View, IsLine, newerThan}
 use Rattle.line_theory.specs.OfTables.{viewOf}
 use Rattle.consistency.specs.Set.{chosen}
 use Rattle.finder.specs.Line.{lineFound, passedFound}
@@ -18,4 +18,4 @@ FoundIsLine =
     (shape : Shape) (sent received : List ℕ) → length (shape .counts) ≡ mostProcesses → tablesQuestion shape sent received ≡ 0
     → let v : View = viewOf shape sent received in
     let c : ℕ → ℕ = chosen (lineFound shape sent received) in
-    IsLine v c × ((j : ℕ) → shape .n ≤ j → c j ≡ 0) × (passedFound shape sent received ≡ passed v c)
+    IsLine v c × ((j : ℕ) → shape .n ≤ j → c j ≡ 0) × (passedFound shape sent received ≡ newerThan v c)

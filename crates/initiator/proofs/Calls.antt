@@ -16,7 +16,7 @@ use Rattle.book.proofs.Tests.{and-both}
 use Rattle.matrix.specs.Matrix.{pick, row}
 use Rattle.matrix.specs.Entries.{allLower}
 use Rattle.message.specs.declared.Message.{Message}
-use Rattle.message.specs.Formed.{isNamed, isPurpose, beginFormed, numbersFormed, numbersOf, messageOf, messageFormed}
+use Rattle.message.specs.Formed.{isNamed, isPurpose, beginFormed, numbersFormed, numbersIn, messageOf, messageFormed}
 use Rattle.message.specs.Read.{noMessage, messageRead}
 use Rattle.message.proofs.Messages.{head-sender}
 use Rattle.message.proofs.Heads.{named-in}
@@ -48,8 +48,8 @@ pub sender-there : (n me initiator : ℕ) (s : List ℕ) (m : Message) → messa
     → (1 ≤ m .head .sender .0) × (m .head .sender .0 ≤ n)
 unfolding messageFormed numbersFormed messageRead
 sender-there n me initiator s m formed e =
-    let numbers = numbersOf s .found in
-    let whole = and-both (eqb (numbersOf s .stop) (length s)) (numbersFormed n me initiator numbers) formed in
+    let numbers = numbersIn s .found in
+    let whole = and-both (eqb (numbersIn s .stop) (length s)) (numbersFormed n me initiator numbers) formed in
     let head = and-both (beginFormed n numbers) _ (whole .1) in
     let is : m ≡ messageOf numbers = e ∙ ap (λ (b : Bool). pick b (messageOf numbers) noMessage) formed in
     subst (λ (t : Message). (1 ≤ t .head .sender .0) × (t .head .sender .0 ≤ n)) (sym is)

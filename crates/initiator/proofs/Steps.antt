@@ -15,18 +15,18 @@ use Rattle.machine.specs.Sends.{invitationHead}
 use Rattle.machine.specs.Flags.{someone, participants}
 use Rattle.initiator.specs.declared.Initiator.{Initiator}
 use Rattle.initiator.specs.declared.InitiatorStep.{InitiatorStep}
-use Rattle.initiator.specs.Begin.{wait, idle, search}
+use Rattle.initiator.specs.Begin.{wait, withoutWait, beginSearch}
 use Rattle.initiator.specs.Step.{takeReport, stepBack, compare, silent, step}
 
 -- ---- the beginning
 
 pub search-is : (own : Own) (me : Process) (purpose : ℕ) (sent unknown first : List Count) (to : List Bool) (news : List Count) (start state : Initiator)
     → sent ≡ sentRow own (own .count) → unknown ≡ notKnownMatrix (own .n) → first ≡ withRow unknown (me .0 - 1) sent
-    → to ≡ participants (own .n) (me .0 - 1) → news ≡ invitations (me .0 - 1) sent → start ≡ idle (own .n) me purpose (own .count) first
+    → to ≡ participants (own .n) (me .0 - 1) → news ≡ invitations (me .0 - 1) sent → start ≡ withoutWait (own .n) me purpose (own .count) first
     → state ≡ pick (someone to) (wait start to) start
     → _≡_ {A = InitiatorStep}
-    (record { state = state; outgoing = record { head = invitationHead purpose me; to = to; news = news } }) (search own me purpose)
-unfolding search
+    (record { state = state; outgoing = record { head = invitationHead purpose me; to = to; news = news } }) (beginSearch own me purpose)
+unfolding beginSearch
 search-is own me purpose sent unknown first to news start state e f g h k l m = rw (m, l, k, h, g, f, e)
 
 -- ---- the step back

@@ -31,8 +31,8 @@ wait state awaited =
 
 -- Before any wait: nobody is awaited, no round is counted, and the copy is the matrix. Where no wait begins, it has ended:
 -- "the initiator with the call that sends the terminations (with n = 1, the start)"; with purpose 2, the start too.
-unfoldable pub idle : ℕ → Process → ℕ → ℕ → List Count → Initiator
-idle n me purpose candidate matrix =
+unfoldable pub withoutWait : ℕ → Process → ℕ → ℕ → List Count → Initiator
+withoutWait n me purpose candidate matrix =
     record {
       n = n;
       me = me;
@@ -48,11 +48,11 @@ idle n me purpose candidate matrix =
 -- "Each process begins at its newest checkpoint. The initiator keeps, for every ordered pair, the sender's candidate's sent
 -- counter or 'not known', and invites every other process with its own sent counter for it." With n = 1 there is nobody to
 -- wait for.
-unfoldable pub search : Own → Process → ℕ → InitiatorStep
-search own me purpose =
+unfoldable pub beginSearch : Own → Process → ℕ → InitiatorStep
+beginSearch own me purpose =
     let sent = sentRow own (own .count) in
     let others = participants (own .n) (me .0 - 1) in
-    let start = idle (own .n) me purpose (own .count) (withRow (notKnownMatrix (own .n)) (me .0 - 1) sent) in
+    let start = withoutWait (own .n) me purpose (own .count) (withRow (notKnownMatrix (own .n)) (me .0 - 1) sent) in
     record {
       state = pick (someone others) (wait start others) start;
       outgoing =
@@ -60,13 +60,13 @@ search own me purpose =
     }
 
 -- "with 2 the invitation itself ends each participant on checkpoint 1, and its sending the initiator"
-unfoldable pub restart : ℕ → Process → ℕ → InitiatorStep
-restart n me purpose =
+unfoldable pub beginRestart : ℕ → Process → ℕ → InitiatorStep
+beginRestart n me purpose =
     record {
-      state = idle n me purpose 1 (notKnownMatrix n);
+      state = withoutWait n me purpose 1 (notKnownMatrix n);
       outgoing = record { head = invitationHead purpose me; to = participants n (me .0 - 1); news = noPairs };
     }
 
 -- "Purposes 1 and 3 search."
 unfoldable pub begin : Own → Process → ℕ → InitiatorStep
-begin own me purpose = pick (eqb purpose 2) (restart (own .n) me purpose) (search own me purpose)
+begin own me purpose = pick (eqb purpose 2) (beginRestart (own .n) me purpose) (beginSearch own me purpose)

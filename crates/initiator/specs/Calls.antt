@@ -14,7 +14,7 @@ use Rattle.mail.specs.Outgoing.{roomQuestion, sentBytes, sentLengths}
 use Rattle.machine.specs.Own.{Own, ownOf}
 use Rattle.initiator.specs.declared.Initiator.{Initiator}
 use Rattle.initiator.specs.declared.InitiatorStep.{InitiatorStep}
-use Rattle.initiator.specs.Begin.{idle, begin}
+use Rattle.initiator.specs.Begin.{withoutWait, begin}
 use Rattle.initiator.specs.Fits.{fits}
 use Rattle.initiator.specs.Step.{senderOf, awaits, step}
 
@@ -33,7 +33,7 @@ beginQuestion shape sent received me purpose out =
 
 -- beside a refusal: all zero, and ended
 unfoldable pub noInitiator : Initiator
-noInitiator = idle 0 (record { 0 = 0 }) 0 0 (asMatrix (λ j p. 0))
+noInitiator = withoutWait 0 (record { 0 = 0 }) 0 0 (asMatrix (λ j p. 0))
 
 unfoldable pub stateBegun : Shape → List ℕ → List ℕ → Process → ℕ → List ℕ → Initiator
 stateBegun shape sent received me purpose out =

@@ -24,7 +24,7 @@ ghost use Rattle.machine.specs.Own.{ownOf};
 ghost use Rattle.machine.specs.Named.{countLimit};
 ghost use Rattle.machine.specs.Flags.{someone};
 ghost use Rattle.machine.specs.Given.{Given};
-ghost use Rattle.initiator.specs.Begin.{wait, idle, search, restart, begin};
+ghost use Rattle.initiator.specs.Begin.{wait, withoutWait, beginSearch, beginRestart, begin};
 ghost use Rattle.initiator.specs.Step.{senderOf, awaits};
 ghost use Rattle.initiator.specs.Calls.{beginQuestion, noInitiator, stateBegun, lengthsBegun, bytesBegun, stateQuestion, receiveQuestion, stateAfter, lengthsAfter, bytesAfter};
 
@@ -57,14 +57,14 @@ pub struct InitiatorAnswer {
 }
 
 // Has ended on a checkpoint, with this matrix, no round and nobody awaited: where no wait begins.
-fn idle(
+fn without_wait(
     n: usize,
     me: Process,
     purpose: u64,
     candidate: Checkpoint,
     matrix: [Count; 256],
 ) -> Initiator
-    ensures { λ r. ⌜ r ≡ idle n me purpose (candidate .0) matrix ⌝ }
+    ensures { λ r. ⌜ r ≡ withoutWait n me purpose (candidate .0) matrix ⌝ }
 {
     let awaited = [false; 16];
     Initiator {
@@ -85,11 +85,11 @@ pub fn no_initiator() -> Initiator
     ensures { λ r. ⌜ r ≡ noInitiator ⌝ }
 {
     let matrix = [Count(0); 256];
-    idle(0, Process(0), 0, Checkpoint(0), matrix)
+    without_wait(0, Process(0), 0, Checkpoint(0), matrix)
 }
 
 // A search begins: everybody else is invited.
-fn search(
+fn begin_search(
     rows: TableRows,
     sent: &[Counter],
     received: &[Counter],
@@ -97,7 +97,7 @@ fn search(
     purpose: u64,
 ) -> InitiatorStep
     requires { ⌜ Given rows (now sent) (now received) (me .0) ⌝ }
-    ensures { λ r. ⌜ r ≡ search (ownOf (rows .shape) (now (sent .entry)) (now (received .entry)) (me .0 - 1)) me purpose ⌝ }
+    ensures { λ r. ⌜ r ≡ beginSearch (ownOf (rows .shape) (now (sent .entry)) (now (received .entry)) (me .0 - 1)) me purpose ⌝ }
 {
     let shape = rows.shape;
     let n = shape.n;
@@ -114,16 +114,16 @@ fn search(
         purpose,
         sender: me,
     };
-    let start = idle(n, me, purpose, newest, first);
+    let start = without_wait(n, me, purpose, newest, first);
     let state = start.wait_if(to);
     let outgoing = Outgoing { head, to, news };
     InitiatorStep { state, outgoing }
 }
 
 // A bare restart: everybody goes to the oldest checkpoint.
-fn restart(n: usize, me: Process, purpose: u64) -> InitiatorStep
+fn begin_restart(n: usize, me: Process, purpose: u64) -> InitiatorStep
     requires { ⌜ 1 ≤ me .0 ⌝ }
-    ensures { λ r. ⌜ r ≡ restart n me purpose ⌝ }
+    ensures { λ r. ⌜ r ≡ beginRestart n me purpose ⌝ }
 {
     let unknown = matrix::not_known_matrix(n);
     let to = machine::participants(n, me);
@@ -133,7 +133,7 @@ fn restart(n: usize, me: Process, purpose: u64) -> InitiatorStep
         purpose,
         sender: me,
     };
-    let state = idle(n, me, purpose, Checkpoint(1), unknown);
+    let state = without_wait(n, me, purpose, Checkpoint(1), unknown);
     let outgoing = Outgoing { head, to, news };
     InitiatorStep { state, outgoing }
 }
@@ -338,7 +338,7 @@ pub fn first_step(
 {
     let shape = rows.shape;
     if purpose == 2 {
-        return restart(shape.n, me, purpose);
+        return begin_restart(shape.n, me, purpose);
     }
-    search(rows, sent, received, me, purpose)
+    begin_search(rows, sent, received, me, purpose)
 }

@@ -22,7 +22,7 @@ use Rattle.machine_laws.proofs.Pairs.{is-pair, pair-sym}
 use Rattle.machine_laws.proofs.Rows.{column-at, sent-at, not-known-at}
 use Rattle.initiator.specs.declared.Initiator.{Initiator}
 use Rattle.initiator.specs.Fits.{restartFits, stageFits}
-use Rattle.initiator.specs.Begin.{wait, idle, search, restart, begin}
+use Rattle.initiator.specs.Begin.{wait, withoutWait, beginSearch, beginRestart, begin}
 use Rattle.initiator_laws.specs.Statements.{BeginFits, FirstRound}
 use Rattle.initiator_laws.proofs.Entries.{Zeros, Only, not-known-out, with-row-each}
 use Rattle.initiator_laws.proofs.Fit.{Fit, fits-out, Searches, search-out}
@@ -48,9 +48,9 @@ wait-fit own state awaited processes some among zeros only someone-is searches f
 
 -- nobody is waited for
 idle-fit : (own : Own) (me : Process) (purpose candidate : ℕ) (matrix : List Count) → 1 ≤ candidate → candidate ≤ own .count
-    → Zeros (own .n) matrix → stageFits own (idle (own .n) me purpose candidate matrix) ≡ true
-    → Fit own (idle (own .n) me purpose candidate matrix)
-unfolding idle
+    → Zeros (own .n) matrix → stageFits own (withoutWait (own .n) me purpose candidate matrix) ≡ true
+    → Fit own (withoutWait (own .n) me purpose candidate matrix)
+unfolding withoutWait
 idle-fit own me purpose candidate matrix some among zeros stage =
     record {
       processes = refl;
@@ -73,8 +73,8 @@ idle-fit own me purpose candidate matrix some among zeros stage =
 not-known-zeros : (n : ℕ) → Zeros n (notKnownMatrix n)
 not-known-zeros n j p i k none = not-known-at n j p i k ∙ ap (λ (t : Bool). pick t mark 0) none
 
-restart-fit : (own : Own) (me : Process) (purpose : ℕ) → 1 ≤ own .count → eqb purpose 2 ≡ true → Fit own (restart (own .n) me purpose .state)
-unfolding restart idle restartFits
+restart-fit : (own : Own) (me : Process) (purpose : ℕ) → 1 ≤ own .count → eqb purpose 2 ≡ true → Fit own (beginRestart (own .n) me purpose .state)
+unfolding beginRestart withoutWait restartFits
 restart-fit own me purpose some two =
     idle-fit own me purpose 1 (notKnownMatrix (own .n)) (omega arith) some (not-known-zeros (own .n))
     (rw (two, not-known-out (own .n) (notKnownMatrix (own .n)) (not-known-at (own .n))))
@@ -130,11 +130,11 @@ module _ (own : Own) (me : ℕ) (is : IsOwn own me) where
       (permitted-out (own .n) (own .R (own .count)) (counters (column (begun own me) me)) begun-permits))
 
 -- a search has it whether it waits for somebody or not
-pub search-matrix : (own : Own) (me : Process) (purpose : ℕ) → search own me purpose .state .matrix ≡ begun own (me .0 - 1)
-unfolding search wait idle
+pub search-matrix : (own : Own) (me : Process) (purpose : ℕ) → beginSearch own me purpose .state .matrix ≡ begun own (me .0 - 1)
+unfolding beginSearch wait withoutWait
 search-matrix own me purpose = go (someone (participants (own .n) (me .0 - 1))) refl
   where
-    go : (t : Bool) → someone (participants (own .n) (me .0 - 1)) ≡ t → search own me purpose .state .matrix ≡ begun own (me .0 - 1)
+    go : (t : Bool) → someone (participants (own .n) (me .0 - 1)) ≡ t → beginSearch own me purpose .state .matrix ≡ begun own (me .0 - 1)
     go true e = rw e
     go false e = rw e
 
@@ -150,26 +150,26 @@ module _ (own : Own) (me : Process) (purpose : ℕ) (is : IsOwn own (me .0 - 1))
   first = begun own (me .0 - 1)
 
   abbrev start : Initiator
-  start = idle (own .n) me purpose (own .count) first
+  start = withoutWait (own .n) me purpose (own .count) first
 
   searches : Searches own start first
-  unfolding idle
+  unfolding withoutWait
   searches = record { own-row = begun-row own (me .0 - 1) is; newest = begun-newest own (me .0 - 1) is }
 
   waiting : someone others ≡ true → Fit own (wait start others)
-  unfolding idle
+  unfolding withoutWait
   waiting e =
       wait-fit own start others refl (is .some) (omega arith) (begun-zeros own (me .0 - 1) is)
       (participants-only (own .n) (me .0 - 1)) e searches (omega arith)
 
   alone : Fit own start
-  unfolding idle
+  unfolding withoutWait
   alone =
       idle-fit own me purpose (own .count) first (is .some) (omega arith) (begun-zeros own (me .0 - 1) is)
       (search-out own start first refl (rw other) searches)
 
-  search-fit : Fit own (search own me purpose .state)
-  unfolding search
+  search-fit : Fit own (beginSearch own me purpose .state)
+  unfolding beginSearch
   search-fit = go (someone others) refl
     where
       go : (t : Bool) → someone others ≡ t → Fit own (pick (someone others) (wait start others) start)
@@ -185,7 +185,7 @@ begin-fits own me purpose is = fits-out own (begin own me purpose .state) (go (e
     go false e = rw e (search-fit own me purpose is e)
 
 pub first-round : FirstRound
-unfolding begin search restart idle wait
+unfolding begin beginSearch beginRestart withoutWait wait
 first-round own me purpose = go (eqb purpose 2) refl (someone (participants (own .n) (me .0 - 1))) refl
   where
     go : (t : Bool) → eqb purpose 2 ≡ t → (u : Bool) → someone (participants (own .n) (me .0 - 1)) ≡ u

@@ -23,7 +23,7 @@ use Rattle.machine_laws.proofs.Theorems.{both-own, newest-exists, same-newest, 
 use Rattle.initiator.specs.declared.Initiator.{Initiator}
 use Rattle.initiator.specs.declared.InitiatorStep.{InitiatorStep}
 use Rattle.initiator.specs.Fits.{keptMatrix, searchFits, stageFits, fits}
-use Rattle.initiator.specs.Begin.{search, begin}
+use Rattle.initiator.specs.Begin.{beginSearch, begin}
 use Rattle.initiator.specs.Step.{takeReport, stepBack, compare, silent, step}
 use Rattle.initiator.specs.Calls.{readBy, messageQuestion, stepOn, receiveQuestion, stateAfter, lengthsAfter, bytesAfter, beginOn, beginQuestion, noInitiator, stateBegun, lengthsBegun, bytesBegun}
 use Rattle.initiator_laws.specs.Statements.{ReceiveIsLocal, BeginIsLocal}
@@ -43,7 +43,7 @@ module _ (a b : Own) (j : ℕ) (is-a : IsOwn a j) (is-b : IsOwn b j) (agree : Ag
       (same-back (takeReport state m))
 
   same-begin : (me : Process) (purpose : ℕ) → begin a me purpose ≡ begin b me purpose
-  unfolding begin search
+  unfolding begin beginSearch
   same-begin me purpose =
       rw (same-row a b j (a .count) is-a is-b agree (is-a .some) (omega arith), agree .processes, agree .checkpoints)
 

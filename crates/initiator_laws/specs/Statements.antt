@@ -24,7 +24,7 @@ use Rattle.consistency.specs.Known.{counters}
 use Rattle.machine.specs.Flags.{someone, participants}
 use Rattle.initiator.specs.declared.Initiator.{Initiator}
 use Rattle.initiator.specs.Fits.{fits}
-use Rattle.initiator.specs.Begin.{begin, search}
+use Rattle.initiator.specs.Begin.{begin, beginSearch}
 use Rattle.initiator.specs.Step.{stepBack, poll, terminate, step}
 use Rattle.initiator.specs.Calls.{
   beginQuestion,
@@ -121,8 +121,8 @@ PollBringsColumn =
 abbrev pub InvitationIsDiff : Type 0
 InvitationIsDiff =
     (own : Own) (me : Process) (purpose p : ℕ) → IsOwn own (me .0 - 1) → isParticipant (own .n) (me .0 - 1) p ≡ true
-    → messageTo (search own me purpose .outgoing) p .news
-    ≡ diff (column (search own me purpose .state .matrix) p) (notKnownRow (own .n) p)
+    → messageTo (beginSearch own me purpose .outgoing) p .news
+    ≡ diff (column (beginSearch own me purpose .state .matrix) p) (notKnownRow (own .n) p)
 
 -- A termination goes to every participant, and has no pairs.
 abbrev pub TerminationIsEmpty : Type 0

@@ -10,7 +10,7 @@ use borrow.Author.Tests.{lt-ltb, le-ltb}
 use lib.ListN.{length, getD, length-append}
 use Rattle.book.specs.declared.Checkpoint.{Checkpoint}
 use Rattle.line_text.specs.Ascii.{ascii}
-use Rattle.line_text.specs.Text.{digitsOf, decimal, spaced, row, checkpointNumbers, firstLines, foundText, refusedText}
+use Rattle.line_text.specs.Text.{digitsOf, decimal, spaced, labelled, checkpointNumbers, firstLines, foundText, refusedText}
 
 -- ---- one digit, and more
 
@@ -66,8 +66,8 @@ pub spaced-most : (n : ℕ) → length (spaced n) ≤ 21
 unfolding spaced
 spaced-most n = omega (arith, decimal-most n)
 
-pub row-most : (word : List ℕ) (n : ℕ) → length (row word n) ≤ length word + 22
-unfolding row
+pub row-most : (word : List ℕ) (n : ℕ) → length (labelled word n) ≤ length word + 22
+unfolding labelled
 row-most word n = simp length-append (omega (arith, spaced-most n))
 
 pub numbers-most : (n : ℕ) (set : List Checkpoint) → length (checkpointNumbers n set) ≤ 21 * n

@@ -9,7 +9,7 @@ use lib.ListN.{length, take, set, getD, length-append}
 use lib.Seq.{take-suc, take-suc-set, take-all, length-take-le}
 use Rattle.book.specs.declared.Checkpoint.{Checkpoint}
 use Rattle.line_text.specs.declared.Text.{Text}
-use Rattle.line_text.specs.Text.{spaced, row, checkpointNumbers}
+use Rattle.line_text.specs.Text.{spaced, labelled, checkpointNumbers}
 use Rattle.line_text.specs.Parts.{Grown, Holds}
 use Rattle.line_text.proofs.Decimal.{row-most, numbers-most}
 
@@ -34,7 +34,7 @@ holds-grown {a} {b} {v} e h g =
     record { first = g .first ∙ rw e; long = l; inside = omega arith }
 
 -- how long a text is at most with one line more
-pub row-room : {a b : Text} (word : List ℕ) (n : ℕ) → Grown a b (row word n) → b .len ≤ a .len + length word + 22
+pub row-room : {a b : Text} (word : List ℕ) (n : ℕ) → Grown a b (labelled word n) → b .len ≤ a .len + length word + 22
 row-room {a} {b} word n g = omega (arith, g .long, row-most word n)
 
 -- ---- the loops

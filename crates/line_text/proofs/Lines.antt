@@ -13,7 +13,7 @@ use Rattle.book.specs.InTurn.{answerTo}
 use Rattle.book.specs.Read.{readQuestion, shapeRead, sentRead, receivedRead}
 use Rattle.round_trips.proofs.Theorems.{read-passes-check}
 use Rattle.line_theory.proofs.Accepted.{accepted-size}
-use Rattle.searches.specs.Search.{setSearched, passedSearched, roundsSearched, messagesSearched}
+use Rattle.searches.specs.Search.{setSearched, newerSearched, roundsSearched, messagesSearched}
 use Rattle.line_text.specs.declared.Text.{Text}
 use Rattle.line_text.specs.Text.{foundText, refusedText}
 use Rattle.line_text.specs.Parts.{Holds}
@@ -24,7 +24,7 @@ first = record { 0 = 1 }
 
 -- what a search answers makes its text
 pub searched-text : (shape : Shape) (sent received : List ℕ) (set : List Checkpoint) (passed rounds messages : ℕ) (text : Text)
-    → set ≡ setSearched shape sent received first 3 → passed ≡ passedSearched shape sent received first 3
+    → set ≡ setSearched shape sent received first 3 → passed ≡ newerSearched shape sent received first 3
     → rounds ≡ roundsSearched shape sent received first 3 → messages ≡ messagesSearched shape sent received first 3
     → Holds text (foundText (shape .n) set passed rounds messages) → Holds text (searchText shape sent received)
 searched-text shape sent received set passed rounds messages text s p r m h =

@@ -3,15 +3,15 @@
 use mathlib.Core.Path.{_≡_, refl}
 use mathlib.Core.List.{[], _∷_}
 use Rattle.line_text.specs.Ascii.{ascii}
-use Rattle.line_text.specs.Text.{digitsOf, decimal, spaced, row, checkpointNumbers, firstLines, foundText, refusedText}
+use Rattle.line_text.specs.Text.{digitsOf, decimal, spaced, labelled, checkpointNumbers, firstLines, foundText, refusedText}
 
 pub example-one : foundText 3 (record { 0 = 1 } ∷ record { 0 = 2 } ∷ record { 0 = 2 } ∷ record { 0 = 0 } ∷ []) 1 2 10
     ≡ ascii "processes 3\nline 1 2 2\npassed 1\nrounds 2\nmessages 10\n"
-unfolding digitsOf decimal spaced row checkpointNumbers firstLines foundText
+unfolding digitsOf decimal spaced labelled checkpointNumbers firstLines foundText
 example-one = refl
 
 pub empty-book : refusedText 3 ≡ ascii "refused 3\n"
-unfolding digitsOf decimal spaced row refusedText
+unfolding digitsOf decimal spaced labelled refusedText
 empty-book = refl
 
 pub zero-shown : decimal 0 ≡ ascii "0"

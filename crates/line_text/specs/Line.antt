@@ -7,7 +7,7 @@ use Rattle.book.specs.declared.Shape.{Shape}
 use Rattle.book.specs.declared.Process.{Process}
 use Rattle.book.specs.Bounds.{entries}
 use Rattle.book.specs.Read.{readQuestion, shapeRead, sentRead, receivedRead}
-use Rattle.searches.specs.Search.{setSearched, passedSearched, roundsSearched, messagesSearched}
+use Rattle.searches.specs.Search.{setSearched, newerSearched, roundsSearched, messagesSearched}
 use Rattle.line_text.specs.Text.{foundText, refusedText}
 
 -- the tables that the book is read into
@@ -18,7 +18,7 @@ tableInside = replicate entries 0
 abbrev pub searchText : Shape → List ℕ → List ℕ → List ℕ
 searchText shape sent received =
     let first : Process = record { 0 = 1 } in
-    foundText (shape .n) (setSearched shape sent received first 3) (passedSearched shape sent received first 3)
+    foundText (shape .n) (setSearched shape sent received first 3) (newerSearched shape sent received first 3)
     (roundsSearched shape sent received first 3)
     (messagesSearched shape sent received first 3)
 

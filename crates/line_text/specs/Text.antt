@@ -22,8 +22,8 @@ unfoldable pub spaced : ℕ → List ℕ
 spaced n = ascii " " ++ decimal n
 
 -- a line: a word, a space and a number
-unfoldable pub row : List ℕ → ℕ → List ℕ
-row word n = word ++ spaced n ++ ascii "\n"
+unfoldable pub labelled : List ℕ → ℕ → List ℕ
+labelled word n = word ++ spaced n ++ ascii "\n"
 
 -- a space and the checkpoint number of each of the first n processes
 unfoldable pub checkpointNumbers : ℕ → List Checkpoint → List ℕ
@@ -32,13 +32,13 @@ checkpointNumbers (suc j) set = checkpointNumbers j set ++ spaced (getD set j (r
 
 -- the number of processes, and the line
 unfoldable pub firstLines : ℕ → List Checkpoint → List ℕ
-firstLines n set = row (ascii "processes") n ++ ascii "line" ++ checkpointNumbers n set ++ ascii "\n"
+firstLines n set = labelled (ascii "processes") n ++ ascii "line" ++ checkpointNumbers n set ++ ascii "\n"
 
 -- an accepted book: its five lines
 unfoldable pub foundText : ℕ → List Checkpoint → ℕ → ℕ → ℕ → List ℕ
 foundText n set passed rounds messages =
-    firstLines n set ++ row (ascii "passed") passed ++ row (ascii "rounds") rounds ++ row (ascii "messages") messages
+    firstLines n set ++ labelled (ascii "passed") passed ++ labelled (ascii "rounds") rounds ++ labelled (ascii "messages") messages
 
 -- a refused book
 unfoldable pub refusedText : ℕ → List ℕ
-refusedText question = row (ascii "refused") question
+refusedText question = labelled (ascii "refused") question

@@ -10,7 +10,7 @@ ghost use mathlib.Core.List.{[], _∷_};
 ghost use Prim.Native.Nat.{_+_, _≤_, _<_};
 ghost use lib.ListN.{length, take};
 ghost use lib.Seq.{sets};
-ghost use Rattle.line_text.specs.Text.{decimal, spaced, row, checkpointNumbers, firstLines, foundText, refusedText};
+ghost use Rattle.line_text.specs.Text.{decimal, spaced, labelled, checkpointNumbers, firstLines, foundText, refusedText};
 ghost use Rattle.line_text.specs.Put.{putAnswer, textPut};
 ghost use Rattle.line_text.specs.Line.{tableInside, searchText, lineText};
 ghost use Rattle.line_text.specs.Parts.{Grown, Holds};
@@ -82,9 +82,9 @@ fn spaced(text: Text, v: u64) -> Text
 }
 
 // A line more: a word, a space and a number.
-fn row(text: Text, w: &[u8], v: u64) -> Text
+fn labelled(text: Text, w: &[u8], v: u64) -> Text
     requires { ⌜ text .len + length (now w) ≤ 490 ⌝ }
-    ensures { λ r. ⌜ Grown text r (row (now (w .entry)) v) ⌝ }
+    ensures { λ r. ⌜ Grown text r (labelled (now (w .entry)) v) ⌝ }
 {
     push(spaced(word(text, w), v), b'\n')
 }
@@ -108,7 +108,7 @@ fn first_lines(text: Text, n: usize, set: [Checkpoint; 16]) -> Text
     requires { ⌜ (n ≤ 16) × (text .len ≤ 140) ⌝ }
     ensures { λ r. ⌜ Grown text r (firstLines n set) ⌝ }
 {
-    let next = word(row(text, b"processes", n as u64), b"line");
+    let next = word(labelled(text, b"processes", n as u64), b"line");
     push(checkpoint_numbers(next, n, set), b'\n')
 }
 
@@ -124,16 +124,16 @@ pub fn found_text(
     ensures { λ r. ⌜ Holds r (foundText n set passed rounds messages) ⌝ }
 {
     let two = first_lines(empty(), n, set);
-    let three = row(two, b"passed", passed as u64);
-    let four = row(three, b"rounds", rounds as u64);
-    row(four, b"messages", messages as u64)
+    let three = labelled(two, b"passed", passed as u64);
+    let four = labelled(three, b"rounds", rounds as u64);
+    labelled(four, b"messages", messages as u64)
 }
 
 // The text for a refused book.
 pub fn refused_text(question: u32) -> Text
     ensures { λ r. ⌜ Holds r (refusedText question) ⌝ }
 {
-    row(empty(), b"refused", question as u64)
+    labelled(empty(), b"refused", question as u64)
 }
 
 // The first bytes of a text copied to the start of a buffer that has room for them.
@@ -177,7 +177,7 @@ fn search_text(shape: Shape, sent: &[Counter], received: &[Counter]) -> Text
 {
     let found = searches::search(shape, sent, received, Process(1), 3);
     let set = found.set;
-    found_text(shape.n, set, found.passed, found.rounds, found.messages)
+    found_text(shape.n, set, found.newer, found.rounds, found.messages)
 }
 
 // The text of a book: what the program prints for it. Question: 17.

@@ -16,7 +16,7 @@ use Rattle.book.specs.Bounds.{mark}
 use Rattle.book.specs.Check.{tablesQuestion}
 use Rattle.book.specs.Layout.{Book}
 use Rattle.book.specs.Questions.{allZero, unusedOf, unusedFrom}
-use Rattle.book.specs.Tables.{column, bookOf}
+use Rattle.book.specs.Tables.{partnerColumn, bookOf}
 use Rattle.book.specs.View.{sum, counterAt, count, S, R}
 use Rattle.book.proofs.Counts.{few-in-all}
 use Rattle.round_trips.specs.WellFormed.{process, counter, WellFormed}
@@ -93,8 +93,8 @@ unused-from n j q (c ∷ counts) table z (suc i) r u h =
 -- ---- the other columns
 
 -- what holds of the own column and of the column of each of the others holds of every process
-pub by-column : (P : ℕ → Type 0) (n j : ℕ) → j < n → P j → ((k : ℕ) → k < n - 1 → P (column j k)) → (p : ℕ) → p < n → P p
-unfolding column
+pub by-column : (P : ℕ → Type 0) (n j : ℕ) → j < n → P j → ((k : ℕ) → k < n - 1 → P (partnerColumn j k)) → (p : ℕ) → p < n → P p
+unfolding partnerColumn
 by-column P n j h own other p m =
     elim (decLt p j) [
       | yes lt ↦ rw (lt-ltb p j lt) at (other p (omega arith))
@@ -158,10 +158,10 @@ module _ (shape : Shape) (sent received : List ℕ) (sixteen : length (shape .co
     pub received-own : R shape received j (suc r) j ≡ 0
     received-own = unused-entry received (checked .received-zero) j r j h m (inl refl)
 
-    pub sent-of : (k : ℕ) → k < shape .n - 1 → S shape sent j (suc r) (column j k) ≡ counter book j r k
+    pub sent-of : (k : ℕ) → k < shape .n - 1 → S shape sent j (suc r) (partnerColumn j k) ≡ counter book j r k
     sent-of k i = view-sent shape sent received sixteen checked j h r k m i
 
-    pub received-of : (k : ℕ) → k < shape .n - 1 → R shape received j (suc r) (column j k) ≡ counter book j r (shape .n - 1 + k)
+    pub received-of : (k : ℕ) → k < shape .n - 1 → R shape received j (suc r) (partnerColumn j k) ≡ counter book j r (shape .n - 1 + k)
     received-of k i = view-received shape sent received sixteen checked j h r k m i
 
   -- received counters rise too, of which the theory of the line says nothing

@@ -7,7 +7,7 @@ use native.Mathlib.Decide.{decLe, decLt}
 use native.Mathlib.Omega.{arith}
 use lib.ListN.{length, getD, List·getD-eq-default}
 use Rattle.line_theory.specs.Over.{sumTo, tab}
-use Rattle.line_theory.specs.Sets.{View, IsBook, IsSet, Consistent, IsLine, passed, cut}
+use Rattle.line_theory.specs.Sets.{View, IsBook, IsSet, Consistent, IsLine, newerThan, cut}
 use Rattle.line_theory.specs.Search.{permitted, newest, sentTo, stepped, settled, lineSet, line}
 use Rattle.line_theory.specs.Statements.{
   IsNewest,
@@ -17,7 +17,7 @@ use Rattle.line_theory.specs.Statements.{
   CutLineEarlier,
   AboveLine,
   CutAboveKeepsLine,
-  PassedIsDistance,
+  NewerIsDistance,
   StepStaysAbove,
   RefusedIsAbove,
   ConsistentAboveIsLine,
@@ -153,9 +153,9 @@ cut-line-earlier m v c book there =
     = λ j k. omega (arith, found .is-set .among j k, there .among j k) in
     line-is-line m v book .latest (line (cut v c)) (record { some = found .is-set .some; among = among }) (found .pairwise)
 
-pub passed-is-distance : PassedIsDistance
-unfolding passed
-passed-is-distance v c there = sum-missing (v .n) c (v .count) (there .among)
+pub newer-is-distance : NewerIsDistance
+unfolding newerThan
+newer-is-distance v c there = sum-missing (v .n) c (v .count) (there .among)
 
 -- ---- a set at or above the line
 

@@ -7,13 +7,13 @@ use native.Mathlib.Omega.{arith}
 use borrow.Author.Tests.{lt-ltb, le-ltb, not-true, not-false}
 use lib.Dec.{ltb}
 use Rattle.line_theory.specs.Over.{sumTo}
-use Rattle.line_theory.specs.Sets.{View, IsBook, IsSet, receivedMore, passed}
+use Rattle.line_theory.specs.Sets.{View, IsBook, IsSet, receivedMore, newerThan}
 use Rattle.line_theory.specs.Search.{permitted, sentTo, line}
 use Rattle.line_theory.specs.Statements.{AboveLine}
 use Rattle.line_theory.proofs.Over.{sum-ext, sum-less}
 use Rattle.line_theory.proofs.Tests.{permitted-in, refused-by, refused-witness, permits-consistent}
 use Rattle.line_theory.proofs.Steps.{sent-rises, permitted-more}
-use Rattle.line_theory.proofs.Line.{line-is-line, passed-is-distance, refused-is-above, consistent-above-is-line}
+use Rattle.line_theory.proofs.Line.{line-is-line, newer-is-distance, refused-is-above, consistent-above-is-line}
 
 -- The finder's state, while it searches in a book from the newest set on: a set `c`, a flag for each process, and how many
 -- steps back were taken.
@@ -108,10 +108,10 @@ module _ {m : ℕ} {v : View} {c : ℕ → ℕ} {flags : ℕ → Bool} {steps : 
           rw (hurt p l e, now .exact p l, others p e) (sym (refused-now (v .n) (v .R p (c p)) (sentTo v c p) (sentTo v c′ p) j k falls same))
 
   -- where no process is flagged
-  pub ended : ((j : ℕ) → j < v .n → flags j ≡ false) → ((j : ℕ) → j < v .n → c j ≡ line v j) × (steps ≡ passed v (line v))
+  pub ended : ((j : ℕ) → j < v .n → flags j ≡ false) → ((j : ℕ) → j < v .n → c j ≡ line v j) × (steps ≡ newerThan v (line v))
   ended none =
       let permits : (j : ℕ) → j < v .n → permitted (v .n) (v .R j (c j)) (sentTo v c j) ≡ true
       = λ j k. not-false (permitted (v .n) (v .R j (c j)) (sentTo v c j)) (sym (now .exact j k) ∙ none j k) in
       let same : (j : ℕ) → j < v .n → c j ≡ line v j
       = consistent-above-is-line m v c book up (permits-consistent v c permits) in
-      (same, omega (arith, sum-ext (v .n) c (line v) same, passed-is-distance v (line v) (line-is-line m v book .is-set), now .taken))
+      (same, omega (arith, sum-ext (v .n) c (line v) same, newer-is-distance v (line v) (line-is-line m v book .is-set), now .taken))

@@ -8,7 +8,7 @@ use Rattle.line_theory.specs.Statements.{
   CutIsBook,
   CutLineEarlier,
   CutAboveKeepsLine,
-  PassedIsDistance,
+  NewerIsDistance,
   NewestIsNewest,
   NewestFromCandidate,
   NotKnownPermits,
@@ -44,8 +44,8 @@ cut-line-earlier = Line.cut-line-earlier
 pub cut-above-keeps-line : CutAboveKeepsLine
 cut-above-keeps-line = Line.cut-above-keeps-line
 
-pub passed-is-distance : PassedIsDistance
-passed-is-distance = Line.passed-is-distance
+pub newer-is-distance : NewerIsDistance
+newer-is-distance = Line.newer-is-distance
 
 pub newest-is-newest : NewestIsNewest
 newest-is-newest = Steps.newest-is-newest

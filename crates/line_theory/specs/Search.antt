@@ -7,7 +7,7 @@ use Prim.Native.Nat.{ℕ, zero, suc}
 use lib.ListN.{getD}
 use lib.Dec.{leb}
 use Rattle.line_theory.specs.Over.{allTo, sumTo, tab, lastTo}
-use Rattle.line_theory.specs.Sets.{View}
+use Rattle.line_theory.specs.Sets.{View, newerThan}
 
 -- Document 01, "A search": a checkpoint "whose received counters are at most the known sent counters". `row p` is what
 -- the checkpoint received from partner p, `known p` what p's candidate sent to it, or the mark for "not known", which is
@@ -43,3 +43,7 @@ lineSet v = settled (sumTo (v .n) (v .count)) v (tab (v .n) (v .count))
 -- the line's checkpoint of process j; 0 for absent processes
 abbrev pub line : View → ℕ → ℕ
 line v j = getD (lineSet v) j 0
+
+-- T: "T, 'passed', is the number of checkpoints newer than the line's, summed."
+abbrev pub passed : View → ℕ
+passed v = newerThan v (line v)

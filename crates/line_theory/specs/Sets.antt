@@ -52,9 +52,9 @@ pub record IsLine (v : View) (c : ℕ → ℕ) : Type 0 where
   pub pairwise : Consistent v c
   pub latest : (d : ℕ → ℕ) → IsSet v d → Consistent v d → (j : ℕ) → j < v .n → d j ≤ c j
 
--- "T, 'passed', is the number of checkpoints newer than the line's, summed."
-unfoldable pub passed : View → (ℕ → ℕ) → ℕ
-passed v c = sumTo (v .n) (λ j. v .count j - c j)
+-- how many checkpoints are newer than a set's, summed
+unfoldable pub newerThan : View → (ℕ → ℕ) → ℕ
+newerThan v c = sumTo (v .n) (λ j. v .count j - c j)
 
 -- the book without the checkpoints that are newer than a set's
 abbrev pub cut : View → (ℕ → ℕ) → View

@@ -10,7 +10,7 @@ use Rattle.book.specs.declared.Shape.{Shape}
 use Rattle.book.specs.Bounds.{mark, mostProcesses}
 use Rattle.book.specs.Check.{tablesQuestion}
 use Rattle.line_theory.specs.Over.{sumTo}
-use Rattle.line_theory.specs.Sets.{View, IsBook, IsSet, Consistent, atFault, consistent, IsLine, passed, cut}
+use Rattle.line_theory.specs.Sets.{View, IsBook, IsSet, Consistent, atFault, consistent, IsLine, newerThan, cut}
 use Rattle.line_theory.specs.Search.{permitted, newest, sentTo, line}
 use Rattle.line_theory.specs.OfTables.{viewOf}
 
@@ -51,8 +51,8 @@ CutAboveKeepsLine =
     (m : ℕ) (v : View) (c : ℕ → ℕ) → IsBook m v → AboveLine v c → (j : ℕ) → j < v .n → line (cut v c) j ≡ line v j
 
 -- T is how far a set's checkpoints, added up, are from the newest: of every set, and so of the line.
-abbrev pub PassedIsDistance : Type 0
-PassedIsDistance = (v : View) (c : ℕ → ℕ) → IsSet v c → passed v c + sumTo (v .n) c ≡ sumTo (v .n) (v .count)
+abbrev pub NewerIsDistance : Type 0
+NewerIsDistance = (v : View) (c : ℕ → ℕ) → IsSet v c → newerThan v c + sumTo (v .n) c ≡ sumTo (v .n) (v .count)
 
 -- Accepted tables are a book, as the theory of the line wants it.
 abbrev pub AcceptedIsBook : Type 0

@@ -15,7 +15,7 @@ use Rattle.message.specs.declared.HeadRead.the-variants.{Found}
 use Rattle.message.specs.declared.PairsRead.{PairsRead}
 use Rattle.message.specs.declared.Message.{Message}
 use Rattle.message.specs.Layout.{pairCount}
-use Rattle.message.specs.Formed.{isKind, isPurpose, isNamed, headFormed, participantEnd, beginFormed, countedFormed, newsCounted, invitationFormed, numbersFormed, numbersOf, messageOf, messageFormed}
+use Rattle.message.specs.Formed.{isKind, isPurpose, isNamed, headFormed, participantEnd, beginFormed, countedFormed, newsCounted, invitationFormed, numbersFormed, numbersIn, messageOf, messageFormed}
 use Rattle.message.specs.Parts.{numbersFrom, HeadFound, PairsFound}
 use Rattle.message.specs.Read.{noMessage, messageRead}
 use Rattle.message.proofs.Tests.{and-first, and-second}
@@ -54,7 +54,7 @@ module _ (n me initiator : ℕ) (s : List ℕ) where
 
   pub no-head : beginFormed n (numbersFrom s 0 .found) ≡ false → messageFormed n me initiator s ≡ false
   unfolding messageFormed numbersFormed
-  no-head e = and-second (eqb (numbersOf s .stop) (length s)) _ (and-first (beginFormed n (numbersFrom s 0 .found)) _ e)
+  no-head e = and-second (eqb (numbersIn s .stop) (length s)) _ (and-first (beginFormed n (numbersFrom s 0 .found)) _ e)
 
   module _ (head : Head) (at : ℕ) (found : HeadFound n s (Found head at)) (end : ℕ)
       (ends : end ≡ participantEnd me initiator (head .sender .0)) (read : PairsRead) (pairs : PairsFound n end s at read) where

@@ -99,9 +99,9 @@ numbersFormed n me initiator numbers =
     && invitationFormed (messageOf numbers))
 
 -- "each field a number as above": one that is not whole, not shortest or over the bound ends the numbers before the end
-abbrev pub numbersOf : List ℕ → Numbers
-numbersOf s = numbersAt groups largest s 0
+abbrev pub numbersIn : List ℕ → Numbers
+numbersIn s = numbersAt groups largest s 0
 
 -- is the message formed, read by process `me` in the initiator's search?
 unfoldable pub messageFormed : ℕ → ℕ → ℕ → List ℕ → Bool
-messageFormed n me initiator s = eqb (numbersOf s .stop) (length s) && numbersFormed n me initiator (numbersOf s .found)
+messageFormed n me initiator s = eqb (numbersIn s .stop) (length s) && numbersFormed n me initiator (numbersIn s .found)

@@ -32,7 +32,7 @@ use Rattle.message.specs.Formed.{
   messageOf,
   beginFormed,
   numbersFormed,
-  numbersOf,
+  numbersIn,
   messageFormed,
 }
 use Rattle.message.specs.Read.{messageRead}
@@ -114,7 +114,7 @@ module _ (n end : ℕ) (m : Message) (few : n ≤ 16) (formed : IsFormed n end m
       (formed-most n end 0 (pairCount (m .news)) xs (omega arith) pairs-are))))
 
   -- the numbers are found in the bytes
-  pub bytes-found : numbersOf (messageBytes m) ≡ record { found = messageNumbers m; stop = length (messageBytes m) }
+  pub bytes-found : numbersIn (messageBytes m) ≡ record { found = messageNumbers m; stop = length (messageBytes m) }
   unfolding messageBytes
   bytes-found = scan-encodeAll 5 4294967295 (messageNumbers m) (omega arith) (omega arith) numbers-most
 
@@ -183,27 +183,27 @@ module _ (n me initiator : ℕ) (ns : List ℕ) (few : n ≤ 16) (formed : numbe
 -- ---- bytes that are a formed message
 
 pub formed-whole : (n me initiator : ℕ) (s : List ℕ) → messageFormed n me initiator s ≡ true
-    → (numbersOf s .stop ≡ length s) × (numbersFormed n me initiator (numbersOf s .found) ≡ true)
+    → (numbersIn s .stop ≡ length s) × (numbersFormed n me initiator (numbersIn s .found) ≡ true)
 unfolding messageFormed
 formed-whole n me initiator s h =
-    let a = and-both (eqb (numbersOf s .stop) (length s)) (numbersFormed n me initiator (numbersOf s .found)) h in
-    (eqb-true (numbersOf s .stop) (length s) (a .0), a .1)
+    let a = and-both (eqb (numbersIn s .stop) (length s)) (numbersFormed n me initiator (numbersIn s .found)) h in
+    (eqb-true (numbersIn s .stop) (length s) (a .0), a .1)
 
-pub whole-formed : (n me initiator : ℕ) (s : List ℕ) → numbersOf s .stop ≡ length s
-    → numbersFormed n me initiator (numbersOf s .found) ≡ true → messageFormed n me initiator s ≡ true
+pub whole-formed : (n me initiator : ℕ) (s : List ℕ) → numbersIn s .stop ≡ length s
+    → numbersFormed n me initiator (numbersIn s .found) ≡ true → messageFormed n me initiator s ≡ true
 unfolding messageFormed
 whole-formed n me initiator s stop h =
-    both-and (eqb (numbersOf s .stop) (length s)) (numbersFormed n me initiator (numbersOf s .found))
-    (eq-eqb (numbersOf s .stop) (length s) stop) h
+    both-and (eqb (numbersIn s .stop) (length s)) (numbersFormed n me initiator (numbersIn s .found))
+    (eq-eqb (numbersIn s .stop) (length s) stop) h
 
 pub read-is : (n me initiator : ℕ) (s : List ℕ) → messageFormed n me initiator s ≡ true
-    → messageRead n me initiator s ≡ messageOf (numbersOf s .found)
+    → messageRead n me initiator s ≡ messageOf (numbersIn s .found)
 unfolding messageRead
 read-is n me initiator s h = rw h
 
 -- the numbers that are found up to the end are the bytes
-pub found-bytes : (s : List ℕ) → T (areBytes s) → numbersOf s .stop ≡ length s → encodeAll (numbersOf s .found) ≡ s
+pub found-bytes : (s : List ℕ) → T (areBytes s) → numbersIn s .stop ≡ length s → encodeAll (numbersIn s .found) ≡ s
 found-bytes s t stop =
     sym (encodeAll-scan 5 4294967295 s 0 t
-    ∙ (ap (λ (k : ℕ). encodeAll (numbersOf s .found) ++ drop k s) stop
-    ∙ (ap (λ (l : List ℕ). encodeAll (numbersOf s .found) ++ l) (drop-length s) ∙ append-nil (encodeAll (numbersOf s .found)))))
+    ∙ (ap (λ (k : ℕ). encodeAll (numbersIn s .found) ++ drop k s) stop
+    ∙ (ap (λ (l : List ℕ). encodeAll (numbersIn s .found) ++ l) (drop-length s) ∙ append-nil (encodeAll (numbersIn s .found)))))

@@ -10,7 +10,7 @@ use borrow.Author.Tests.{ne-eqb}
 use lib.ListN.{length, take, drop, length-append, replicate-append-replicate}
 use lib.Seq.{length-take-le, take-take, take-add, drop-drop}
 use lib.Dec.{eqb}
-use Rattle.varint.specs.Sequence.{Numbers, after}
+use Rattle.varint.specs.Sequence.{Numbers, numbersAfter}
 use Rattle.book.specs.Bounds.{mark}
 use Rattle.book.specs.InTurn.{_then_}
 use Rattle.book.specs.Layout.{width}
@@ -27,7 +27,7 @@ use Rattle.reader.proofs.RowTurns.{others-put}
 use Rattle.reader.proofs.ProcessRows.{Rows, rows-begun, rows-length, rows-fit, rows-more, rows-ended}
 
 -- the numbers after k, and of those the ones after m
-after-after : (k m : ℕ) (ns : Numbers) → after m (after k ns) ≡ after (k + m) ns
+after-after : (k m : ℕ) (ns : Numbers) → numbersAfter m (numbersAfter k ns) ≡ numbersAfter (k + m) ns
 after-after k m ns = λ i. record { found = drop-drop m k (ns .found) i; stop = ns .stop }
 
 -- the questions of a checkpoint's counters are those of its sent ones, then those of its received ones
@@ -104,7 +104,7 @@ pub record Passed (n j first count : ℕ) (s : List ℕ) (at : ℕ) (sent₀ rec
   pub within : r ≤ count
   pub sentRows : Rows (take (n - 1)) n j first count r (listFrom s at) (listFrom s next) sent₀ sent
   pub receivedRows : Rows (drop (n - 1)) n j first count r (listFrom s at) (listFrom s next) received₀ received
-  pub rest : numbersFrom s next ≡ after (r * width n) (numbersFrom s at)
+  pub rest : numbersFrom s next ≡ numbersAfter (r * width n) (numbersFrom s at)
   pub asked : processQuestion mark n count (listFrom s at)
       ≡ checkpointsQuestion mark (eqb r 0) (bothBefore n j first r sent received) (count - r) (listFrom s next)
 
@@ -181,11 +181,11 @@ module _ (n j first count : ℕ) (s : List ℕ) (at : ℕ) (sent₀ received₀ 
 
         -- a checkpoint more
         module _ (y : two .question ≡ 0) where
-          on : numbersFrom s (two .next) ≡ after (width n) (numbersFrom s next)
+          on : numbersFrom s (two .next) ≡ numbersAfter (width n) (numbersFrom s next)
           on =
               let both : n - 1 + (n - 1) ≡ width n = omega arith in
-              did′ .rest y ∙ ap (after (n - 1)) (did .rest z) ∙ after-after (n - 1) (n - 1) (numbersFrom s next)
-              ∙ ap (λ (k : ℕ). after k (numbersFrom s next)) both
+              did′ .rest y ∙ ap (numbersAfter (n - 1)) (did .rest z) ∙ after-after (n - 1) (n - 1) (numbersFrom s next)
+              ∙ ap (λ (k : ℕ). numbersAfter k (numbersFrom s next)) both
 
           left : listFrom s (two .next) ≡ drop (width n) (listFrom s next)
           left = ap (λ (ns : Numbers). ns .found) on
@@ -219,8 +219,8 @@ module _ (n j first count : ℕ) (s : List ℕ) (at : ℕ) (sent₀ received₀ 
                 receivedRows =
                     rw left
                     (rows-more _ _ _ _ _ _ _ _ _ _ (inv .receivedRows) (take (n - 1) (listFrom s (one .next))) received′ h receivedHalf (row-short (eqb r 0) n j (first + r) received received′ s (one .next) two received-fits did′ y) (did′ .read y));
-                rest = on ∙ ap (after (width n)) (inv .rest) ∙ after-after (r * width n) (width n) (numbersFrom s at)
-                    ∙ ap (λ (k : ℕ). after k (numbersFrom s at)) places;
+                rest = on ∙ ap (numbersAfter (width n)) (inv .rest) ∙ after-after (r * width n) (width n) (numbersFrom s at)
+                    ∙ ap (λ (k : ℕ). numbersAfter k (numbersFrom s at)) places;
                 asked = turn′ ∙ then-passed _ _ y
                     ∙ ap₂ (λ (bs vs′ : List ℕ). checkpointsQuestion mark false bs (count - (r + 1)) vs′) (sym before-now) (sym left)
                     ∙ ap
@@ -236,7 +236,7 @@ module _ (n j first count : ℕ) (s : List ℕ) (at : ℕ) (sent₀ received₀ 
         asked = sym
             (inv .asked ∙ ap (λ (m : ℕ). checkpointsQuestion mark (eqb r 0) (bothBefore n j first r sent received) m (listFrom s next)) none
             ∙ checkpoints-none (eqb r 0) (bothBefore n j first r sent received) (listFrom s next));
-        rest = λ _. inv .rest ∙ ap (λ (m : ℕ). after (m * width n) (numbersFrom s at)) all;
+        rest = λ _. inv .rest ∙ ap (λ (m : ℕ). numbersAfter (m * width n) (numbersFrom s at)) all;
         sentRead = λ _. rows-ended _ _ _ _ _ _ _ _ _ _ (inv .sentRows) h;
         receivedRead = λ _. rows-ended _ _ _ _ _ _ _ _ _ _ (inv .receivedRows) h;
       }

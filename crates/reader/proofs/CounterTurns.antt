@@ -9,12 +9,12 @@ use lib.ListN.{length, take, drop, getD, set, length-append, length-drop, drop-o
 use lib.Seq.{sets, length-sets, take-at, drop-at, drop-cons, append-snoc}
 use Rattle.varint.specs.declared.Numeral.the-variants.{Number, Refused}
 use Rattle.varint.specs.Number.{readNumber}
-use Rattle.varint.specs.Sequence.{Numbers, after}
+use Rattle.varint.specs.Sequence.{Numbers, numbersAfter}
 use Rattle.varint.proofs.Sequence.{numbers-none, numbers-more}
 use Rattle.book.specs.Bounds.{groups, largest, mark}
 use Rattle.book.specs.Before.{entryBefore, countersBefore}
 use Rattle.book.specs.InTurn.{_then_}
-use Rattle.book.specs.Tables.{tableRow, others, column}
+use Rattle.book.specs.Tables.{tableRow, others, partnerColumn}
 use Rattle.book.specs.Questions.{counterQuestion}
 use Rattle.book.specs.Along.{countersQuestion}
 use Rattle.book.proofs.Questions.{then-passed, then-refused}
@@ -51,14 +51,14 @@ module _ (oldest : Bool) (n j start : ℕ) (table : List ℕ) (fits : RowClear o
 
   -- the entry one row before is the same after a part of the row is put
   before-put : (o : Bool) (k : ℕ) (row : List ℕ) → k < n - 1 → (o ≡ false → 16 ≤ start)
-      → entryBefore o (start + column j k) table ≡ entryBefore o (start + column j k) (sets table start row)
+      → entryBefore o (start + partnerColumn j k) table ≡ entryBefore o (start + partnerColumn j k) (sets table start row)
   before-put true k row h later = refl
   before-put false k row h later =
       let at = later refl in
-      sym (getD-below row table start (start + column j k - 16) (omega (arith, column-within j k, fits .most)))
+      sym (getD-below row table start (start + partnerColumn j k - 16) (omega (arith, column-within j k, fits .most)))
 
   before-there : (k : ℕ) (row : List ℕ) → k < n - 1
-      → getD (countersBefore oldest n j start table) k 0 ≡ entryBefore oldest (start + column j k) (sets table start row)
+      → getD (countersBefore oldest n j start table) k 0 ≡ entryBefore oldest (start + partnerColumn j k) (sets table start row)
   before-there k row h =
       rows-before.before-there n j start table (fits .present) wide-before oldest k (fits .later) h ∙ before-put oldest k row h (fits .later)
 
@@ -116,7 +116,7 @@ module _ (oldest : Bool) (n j start : ℕ) (table₀ s : List ℕ) (at : ℕ) (f
           ∙ counters-short oldest (getD before k 0) (drop (suc k) before)))
           (λ z. omega arith)
 
-      module _ (v after col b q : ℕ) (r : readNumber groups largest s next ≡ Number v after) (place : col ≡ column j k)
+      module _ (v after col b q : ℕ) (r : readNumber groups largest s next ≡ Number v after) (place : col ≡ partnerColumn j k)
           (there : b ≡ entryBefore oldest (start + col) table) (e : q ≡ counterQuestion mark oldest b v) where
         same : q ≡ counterQuestion mark oldest (getD before k 0) v
         same =
@@ -146,7 +146,7 @@ module _ (oldest : Bool) (n j start : ℕ) (table₀ s : List ℕ) (at : ℕ) (f
               done = inv .done ++ (v ∷ []);
               passed = length-append (inv .done) (v ∷ []) ∙ ap (λ (m : ℕ). m + 1) (inv .passed);
               present = ap₂ (λ (x : ℕ) (t : List ℕ). set t (start + x) v) place (inv .present)
-                  ∙ set-within (tableRow j (inv .done)) table₀ start (column j k) (start + column j k) v (omega (arith, column-within j k)) refl
+                  ∙ set-within (tableRow j (inv .done)) table₀ start (partnerColumn j k) (start + partnerColumn j k) v (omega (arith, column-within j k)) refl
                   ∙ ap (sets table₀ start) (row-put j k v (inv .done) (inv .passed) few);
               found = inv .found ∙ ap (prepend (inv .done)) (numbers-more groups largest s next v after r)
                   ∙ (λ i. record { found = sym (append-snoc (inv .done) v (numbersFrom s after .found)) i; stop = numbersFrom s after .stop });
@@ -162,7 +162,7 @@ module _ (oldest : Bool) (n j start : ℕ) (table₀ s : List ℕ) (at : ℕ) (f
         record {
           asked = sym (inv .asked ∙ ap (λ (bs : List ℕ). countersQuestion mark oldest bs (numbersFrom s next .found)) none
               ∙ counters-none oldest (numbersFrom s next .found));
-          rest = λ _. sym (ap (after (n - 1)) (inv .found)
+          rest = λ _. sym (ap (numbersAfter (n - 1)) (inv .found)
               ∙ (λ i. record { found = drop-at (inv .done) (numbersFrom s next .found) (n - 1) all i; stop = numbersFrom s next .stop }));
           read = λ _. inv .present ∙ ap (λ (cs : List ℕ). sets table₀ start (tableRow j cs))
               (sym (ap (λ (ns : Numbers). take (n - 1) (ns .found)) (inv .found) ∙ take-at (inv .done) (numbersFrom s next .found) (n - 1) all));

@@ -6,7 +6,7 @@ use native.Mathlib.Omega.{arith}
 use lib.ListN.{take, drop}
 use Rattle.varint.specs.declared.Numeral.the-variants.{Number, Refused}
 use Rattle.varint.specs.Number.{readNumber}
-use Rattle.varint.specs.Sequence.{Numbers, after}
+use Rattle.varint.specs.Sequence.{Numbers, numbersAfter}
 use Rattle.varint.proofs.Sequence.{numbers-none, numbers-more}
 use Rattle.book.specs.Bounds.{groups, largest, mark}
 use Rattle.book.specs.Layout.{width}
@@ -70,7 +70,7 @@ module _ (n j sum : ℕ) (s : List ℕ) (at : ℕ) (sent₀ received₀ sent rec
         (record {
           asked = did .asked ∙ sym (turn ∙ then-passed _ _ (count-given sum v h k));
           head = λ _. ap (λ (ns : Numbers). ns .found) go ∙ ap (λ (l : List ℕ). v ∷ l) behind;
-          rest = λ z. did .rest z ∙ ap (after (suc (v * width n))) (sym go);
+          rest = λ z. did .rest z ∙ ap (numbersAfter (suc (v * width n))) (sym go);
           within = λ _. (h, k);
           enough = λ z. rw behind at (process-long mark n v (numbersFrom s next .found) (sym (did .asked) ∙ z));
           sentRead = λ z. did .sentRead z ∙ ap (λ (l : List ℕ). withRows (take (n - 1)) n j sum v l sent₀) behind;

@@ -11,7 +11,7 @@ use lib.Dec.{eqb}
 use Rattle.varint.specs.declared.Numeral.{Numeral}
 use Rattle.varint.specs.declared.Numeral.the-variants.{Number, Refused}
 use Rattle.varint.specs.Number.{readNumber}
-use Rattle.varint.specs.Sequence.{Numbers, after}
+use Rattle.varint.specs.Sequence.{Numbers, numbersAfter}
 use Rattle.varint.proofs.Reading.{read-past}
 use Rattle.varint.proofs.Sequence.{numbers-none, numbers-more}
 use Rattle.book.specs.declared.Shape.{Shape}
@@ -131,7 +131,7 @@ module _ (n : ℕ) (s : List ℕ) (at : ℕ) (sent received counts : List ℕ) (
       pub met-more : r .question ≡ 0 → Met n s at sent′ received′ (set counts j (r .count)) (sum + r .count) (r .next) (j + 1)
       met-more z =
           let c : ℕ = r .count in
-          let go : numbersFrom s (r .next) ≡ after (suc (c * width n)) (numbersFrom s next) = did .rest z in
+          let go : numbersFrom s (r .next) ≡ numbersAfter (suc (c * width n)) (numbersFrom s next) = did .rest z in
           let on : wholeFrom s next ≡ wholeFrom s (r .next) = ap (λ (ns : Numbers). eqb (ns .stop) (length s)) (sym go) in
           let vs : List ℕ = drop 1 (numbersFrom s next .found) in
           let left : numbersFrom s (r .next) .found ≡ drop (c * width n) vs =

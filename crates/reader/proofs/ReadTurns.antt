@@ -6,7 +6,7 @@ use lib.ListN.{length}
 use Rattle.book.specs.declared.Answer.the-variants.{Accepted, Refused}
 use Rattle.book.specs.Bounds.{mark}
 use Rattle.book.specs.Tables.{shapeOf, sentTable, receivedTable}
-use Rattle.book.specs.Read.{numbersOf, ended, bookRead, noShape, readQuestion, shapeRead, sentRead, receivedRead}
+use Rattle.book.specs.Read.{numbersFound, endWithBytes, bookRead, noShape, readQuestion, shapeRead, sentRead, receivedRead}
 use Rattle.book.specs.InTurn.{_then_, answerTo, unlessRefused}
 use Rattle.book.specs.Questions.{bytesQuestion, lengthQuestion}
 use Rattle.book.specs.Along.{bookQuestion}
@@ -17,9 +17,9 @@ use Rattle.reader.specs.Parts.{sizesQuestion, refusal, BookTaken, BytesT
 
 module _ (bytes sent received : List ℕ) where
   parts : readQuestion bytes sent received
-      ≡ (sizesQuestion (length bytes) (length sent) (length received) then λ _. bookQuestion mark (ended bytes) (numbersOf bytes))
+      ≡ (sizesQuestion (length bytes) (length sent) (length received) then λ _. bookQuestion mark (endWithBytes bytes) (numbersFound bytes))
   unfolding readQuestion
-  parts = sym (then-assoc (bytesQuestion bytes) (λ _. lengthQuestion sent received) (λ _. bookQuestion mark (ended bytes) (numbersOf bytes)))
+  parts = sym (then-assoc (bytesQuestion bytes) (λ _. lengthQuestion sent received) (λ _. bookQuestion mark (endWithBytes bytes) (numbersFound bytes)))
 
   -- a refusal leaves everything as it was
   pub left-refused : (r : Checked) → r .question ≡ readQuestion bytes sent received → (r .question ≡ 0 → ⊥) → r .shape ≡ shapeRead bytes sent received
@@ -58,7 +58,7 @@ module _ (bytes sent received : List ℕ) where
       sizes-long = lengths-taken sent received (then-none (bytesQuestion bytes) (λ _. lengthQuestion sent received) (sym asked ∙ z) .1)
 
       module _ (r : Checked) (sent₁ received₁ : List ℕ) (did : BookTaken bytes r sent₁ received₁) where
-        along : bookQuestion mark (ended bytes) (numbersOf bytes) ≡ readQuestion bytes sent received
+        along : bookQuestion mark (endWithBytes bytes) (numbersFound bytes) ≡ readQuestion bytes sent received
         along = sym (parts ∙ then-passed _ _ (sym asked ∙ z))
 
         pub book-question : r .question ≡ readQuestion bytes sent received

@@ -8,7 +8,7 @@ use borrow.Author.Tests.{lt-ltb, le-ltb}
 use lib.ListN.{length, take, drop, set, replicate, length-append, drop-of-length-le}
 use lib.Seq.{sets, take-all, set-at, append-snoc, take-append-le, drop-append-le}
 use Rattle.varint.proofs.WriteTurns.{drop-sets}
-use Rattle.book.specs.Tables.{padded, tableRow, others, column}
+use Rattle.book.specs.Tables.{padded, tableRow, others, partnerColumn}
 use Rattle.book.proofs.Rows.{length-spread, length-row, others-row}
 
 -- a row that does not reach its own column yet
@@ -54,8 +54,8 @@ row-after-own j k v cs e few ge =
     ∙ ap (padded 16) on
 
 -- a counter more, in the column of the k-th of the others
-pub row-put : (j k v : ℕ) (cs : List ℕ) → length cs ≡ k → k < 15 → set (tableRow j cs) (column j k) v ≡ tableRow j (cs ++ (v ∷ []))
-unfolding column
+pub row-put : (j k v : ℕ) (cs : List ℕ) → length cs ≡ k → k < 15 → set (tableRow j cs) (partnerColumn j k) v ≡ tableRow j (cs ++ (v ∷ []))
+unfolding partnerColumn
 row-put j k v cs e few =
     elim (decLt k j) [
       | yes lt ↦ rw (lt-ltb k j lt) (row-before-own j k v cs e few lt)

@@ -7,7 +7,7 @@ use Prim.Native.Nat.{ℕ, suc, _+_, _*_, _-_, _≤_, _<_}
 use lib.ListN.{length, take, drop, getD, replicate}
 use lib.Seq.{sets}
 use lib.Dec.{leb, eqb}
-use Rattle.varint.specs.Sequence.{Numbers, numbersAt, after}
+use Rattle.varint.specs.Sequence.{Numbers, numbersAt, numbersAfter}
 use Rattle.book.specs.declared.Shape.{Shape}
 use Rattle.book.specs.Bounds.{groups, largest, mark, mostBytes, rowWidth, entries}
 use Rattle.book.specs.Before.{countersBefore}
@@ -61,7 +61,7 @@ pub record RowsClear (n j first count : ℕ) (table : List ℕ) : Type 0 where
 -- the counters of one row were taken
 pub record RowTaken (oldest : Bool) (n j start : ℕ) (s : List ℕ) (at : ℕ) (step : Step) (table₀ table : List ℕ) : Type 0 where
   pub asked : step .question ≡ countersQuestion mark oldest (countersBefore oldest n j start table₀) (numbersFrom s at .found)
-  pub rest : step .question ≡ 0 → numbersFrom s (step .next) ≡ after (n - 1) (numbersFrom s at)
+  pub rest : step .question ≡ 0 → numbersFrom s (step .next) ≡ numbersAfter (n - 1) (numbersFrom s at)
   pub read : step .question ≡ 0 → table ≡ sets table₀ start (tableRow j (take (n - 1) (numbersFrom s at .found)))
 
 -- a table with the rows of process j put into it; `half` takes a checkpoint's sent or its received counters
@@ -71,7 +71,7 @@ withRows half n j first count vs table = sets table (first * rowWidth) (processR
 -- the checkpoints of one process were taken
 pub record CheckpointsTaken (n j first count : ℕ) (s : List ℕ) (at : ℕ) (step : Step) (sent₀ received₀ sent received : List ℕ) : Type 0 where
   pub asked : step .question ≡ processQuestion mark n count (numbersFrom s at .found)
-  pub rest : step .question ≡ 0 → numbersFrom s (step .next) ≡ after (count * width n) (numbersFrom s at)
+  pub rest : step .question ≡ 0 → numbersFrom s (step .next) ≡ numbersAfter (count * width n) (numbersFrom s at)
   pub sentRead : step .question ≡ 0 → sent ≡ withRows (take (n - 1)) n j first count (numbersFrom s at .found) sent₀
   pub receivedRead : step .question ≡ 0 → received ≡ withRows (drop (n - 1)) n j first count (numbersFrom s at .found) received₀
 
@@ -88,7 +88,7 @@ refusedAt question at = record { question = question; next = at; count = 0 }
 pub record ProcessTaken (n j sum : ℕ) (s : List ℕ) (at : ℕ) (r : Counted) (sent₀ received₀ sent received : List ℕ) : Type 0 where
   pub asked : r .question ≡ nextProcess n sum (numbersFrom s at .found)
   pub head : r .question ≡ 0 → numbersFrom s at .found ≡ r .count ∷ drop 1 (numbersFrom s at .found)
-  pub rest : r .question ≡ 0 → numbersFrom s (r .next) ≡ after (suc (r .count * width n)) (numbersFrom s at)
+  pub rest : r .question ≡ 0 → numbersFrom s (r .next) ≡ numbersAfter (suc (r .count * width n)) (numbersFrom s at)
   pub within : r .question ≡ 0 → (1 ≤ r .count) × (sum + r .count ≤ 256)
   pub enough : r .question ≡ 0 → r .count * width n ≤ length (drop 1 (numbersFrom s at .found))
   pub sentRead : r .question ≡ 0 → sent ≡ withRows (take (n - 1)) n j sum (r .count) (drop 1 (numbersFrom s at .found)) sent₀

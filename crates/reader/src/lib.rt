@@ -93,7 +93,7 @@ fn take_counters(
         let Numeral::Number(v, after) = varint::read_short(s, next, book::LARGEST) else {
             return Step { question: 3, next };
         };
-        let c = start + book::column(j, k);
+        let c = start + book::partner_column(j, k);
         let before = book::entry_before(table, c, oldest);
         let question = book::counter_question(book::MARK, oldest, before, v);
         if question != 0 {

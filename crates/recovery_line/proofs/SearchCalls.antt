@@ -8,37 +8,37 @@ use Rattle.book.specs.declared.Answer.{Answer}
 use Rattle.book.specs.declared.Shape.{Shape}
 use Rattle.book.specs.declared.Checkpoint.{Checkpoint}
 use Rattle.book.specs.InTurn.{ask, answerTo}
-use Rattle.searches.specs.Search.{searchQuestion, setSearched, passedSearched, roundsSearched, messagesSearched}
+use Rattle.searches.specs.Search.{searchQuestion, setSearched, newerSearched, roundsSearched, messagesSearched}
 use Rattle.words.specs.Words.{shapeLength, setLength, wrongLength, isLong}
 use Rattle.words.specs.Plain.{numberOf, shapeIn, setWords}
 use Rattle.recovery_line.specs.Machines.{named}
-use Rattle.recovery_line.specs.Sessions.{searchAnswer, searchLine, searchPassed, searchRounds, searchMessages}
+use Rattle.recovery_line.specs.Sessions.{searchAnswer, searchSet, searchNewer, searchRounds, searchMessages}
 use Rattle.recovery_line.proofs.Shells.{two-long, wrong, asked, question-is, kept, put, set-put}
 
-module _ (shape sent received : List ℕ) (initiator purpose : ℕ) (line : List ℕ) (passed rounds messages : ℕ) {q : ℕ}
-    (same : q ≡ ask wrongLength (isLong shapeLength shape && isLong setLength line))
+module _ (shape sent received : List ℕ) (initiator purpose : ℕ) (set : List ℕ) (newer rounds messages : ℕ) {q : ℕ}
+    (same : q ≡ ask wrongLength (isLong shapeLength shape && isLong setLength set))
   where
     abbrev inside : ℕ
     inside = searchQuestion (shapeIn shape) sent received (named initiator) purpose
 
     abbrev answer-put : ℕ
-    answer-put = searchAnswer shape sent received initiator purpose line
+    answer-put = searchAnswer shape sent received initiator purpose set
 
     -- the answer, and what is left in the slice and in each number
     abbrev Searched : ℕ → List ℕ → ℕ → ℕ → ℕ → Type 0
-    Searched r line′ passed′ rounds′ messages′ =
+    Searched r set′ newer′ rounds′ messages′ =
         (r ≡ answer-put)
-        × ((line′ ≡ searchLine shape sent received initiator purpose line)
-        × ((passed′ ≡ searchPassed shape sent received initiator purpose line passed)
-        × ((rounds′ ≡ searchRounds shape sent received initiator purpose line rounds)
-        × (messages′ ≡ searchMessages shape sent received initiator purpose line messages))))
+        × ((set′ ≡ searchSet shape sent received initiator purpose set)
+        × ((newer′ ≡ searchNewer shape sent received initiator purpose set newer)
+        × ((rounds′ ≡ searchRounds shape sent received initiator purpose set rounds)
+        × (messages′ ≡ searchMessages shape sent received initiator purpose set messages))))
 
-    untouched : {r : ℕ} → r ≡ answer-put → (r ≡ 0 → ⊥) → Searched r line passed rounds messages
-    unfolding searchLine searchPassed searchRounds searchMessages
+    untouched : {r : ℕ} → r ≡ answer-put → (r ≡ 0 → ⊥) → Searched r set newer rounds messages
+    unfolding searchSet searchNewer searchRounds searchMessages
     untouched e some =
-        (e, (kept e line _ some, (kept e passed _ some, (kept e rounds _ some, kept e messages _ some))))
+        (e, (kept e set _ some, (kept e newer _ some, (kept e rounds _ some, kept e messages _ some))))
 
-    pub search-wrong : (q ≡ 0 → ⊥) → Searched q line passed rounds messages
+    pub search-wrong : (q ≡ 0 → ⊥) → Searched q set newer rounds messages
     unfolding searchAnswer
     search-wrong some = untouched (wrong same (λ _. inside) some) some
 
@@ -51,32 +51,32 @@ module _ (shape sent received : List ℕ) (initiator purpose : ℕ) (line : List
             let to : answer ≡ answerTo inside = answers ∙ (λ t. answerTo (searchQuestion (given-is t) sent received (named (i-is t)) purpose)) in
             asked same (λ _. inside) none (question-is inside number to)
 
-        pub search-refused : (r ≡ 0 → ⊥) → Searched r line passed rounds messages
+        pub search-refused : (r ≡ 0 → ⊥) → Searched r set newer rounds messages
         search-refused some = untouched answered some
 
-        module _ (zeroed : r ≡ 0) {found : List Checkpoint} (stand : found ≡ setSearched given sent received (named i) purpose) {line′ : List ℕ}
-            (left : line′ ≡ sets line 0 (setWords found))
+        module _ (zeroed : r ≡ 0) {found : List Checkpoint} (stand : found ≡ setSearched given sent received (named i) purpose) {set′ : List ℕ}
+            (left : set′ ≡ sets set 0 (setWords found))
           where
-            line-left : line′ ≡ searchLine shape sent received initiator purpose line
-            unfolding searchLine
-            line-left =
-                let place = set-put line (two-long shapeLength setLength shape line same none .1) found left in
+            set-left : set′ ≡ searchSet shape sent received initiator purpose set
+            unfolding searchSet
+            set-left =
+                let place = set-put set (two-long shapeLength setLength shape set same none .1) found left in
                 let there = stand ∙ (λ t. setSearched (given-is t) sent received (named (i-is t)) purpose) in
-                put answered line _ zeroed (place ∙ ap setWords there)
+                put answered set _ zeroed (place ∙ ap setWords there)
 
-            pub search-ended : {newer waits turns : ℕ} → newer ≡ passedSearched given sent received (named i) purpose
+            pub search-ended : {later waits turns : ℕ} → later ≡ newerSearched given sent received (named i) purpose
                 → waits ≡ roundsSearched given sent received (named i) purpose
                 → turns ≡ messagesSearched given sent received (named i) purpose
-                → {passed′ rounds′ messages′ : ℕ} → passed′ ≡ newer → rounds′ ≡ waits → messages′ ≡ turns
-                → Searched 0 line′ passed′ rounds′ messages′
-            unfolding searchPassed searchRounds searchMessages
+                → {newer′ rounds′ messages′ : ℕ} → newer′ ≡ later → rounds′ ≡ waits → messages′ ≡ turns
+                → Searched 0 set′ newer′ rounds′ messages′
+            unfolding searchNewer searchRounds searchMessages
             search-ended e f g e′ f′ g′ = (
               sym zeroed ∙ answered,
               (
-                line-left,
+                set-left,
                 (
-                  put answered passed _ zeroed
-                      (e′ ∙ e ∙ (λ t. passedSearched (given-is t) sent received (named (i-is t)) purpose)),
+                  put answered newer _ zeroed
+                      (e′ ∙ e ∙ (λ t. newerSearched (given-is t) sent received (named (i-is t)) purpose)),
                   (
                     put answered rounds _ zeroed
                         (f′ ∙ f ∙ (λ t. roundsSearched (given-is t) sent received (named (i-is t)) purpose)),

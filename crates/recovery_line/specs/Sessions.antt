@@ -4,7 +4,7 @@ use mathlib.Core.List.{List}
 use Prim.Native.Nat.{ℕ}
 use Rattle.book.specs.InTurn.{_then_, ask, unlessRefused}
 use Rattle.session.specs.Calls.{startQuestion, sessionStarted, strandsStarted, turnQuestion, sessionAfter, strandsAfter}
-use Rattle.searches.specs.Search.{searchQuestion, setSearched, passedSearched, roundsSearched, messagesSearched}
+use Rattle.searches.specs.Search.{searchQuestion, setSearched, newerSearched, roundsSearched, messagesSearched}
 use Rattle.words.specs.Words.{shapeLength, setLength, sessionLength, wrongLength, isLong}
 use Rattle.words.specs.Plain.{shapeIn, setWords}
 use Rattle.words.specs.Session.{sessionWords, sessionIn}
@@ -48,19 +48,21 @@ module _ (session shape sent received : List ℕ) (p : ℕ) (strands : List ℕ)
 
 -- ---- search
 
-module _ (shape sent received : List ℕ) (initiator purpose : ℕ) (line : List ℕ) where
+module _ (shape sent received : List ℕ) (initiator purpose : ℕ) (set : List ℕ) where
   unfoldable pub searchAnswer : ℕ
   searchAnswer =
-      ask wrongLength (isLong shapeLength shape && isLong setLength line)
+      ask wrongLength (isLong shapeLength shape && isLong setLength set)
       then λ _. searchQuestion (shapeIn shape) sent received (named initiator) purpose
 
-  unfoldable pub searchLine : List ℕ
-  searchLine =
-      unlessRefused searchAnswer line (setWords (setSearched (shapeIn shape) sent received (named initiator) purpose))
+  -- the set on which everybody ended
+  unfoldable pub searchSet : List ℕ
+  searchSet =
+      unlessRefused searchAnswer set (setWords (setSearched (shapeIn shape) sent received (named initiator) purpose))
 
-  unfoldable pub searchPassed : ℕ → ℕ
-  searchPassed before =
-      unlessRefused searchAnswer before (passedSearched (shapeIn shape) sent received (named initiator) purpose)
+  -- how many checkpoints are newer than it
+  unfoldable pub searchNewer : ℕ → ℕ
+  searchNewer before =
+      unlessRefused searchAnswer before (newerSearched (shapeIn shape) sent received (named initiator) purpose)
 
   unfoldable pub searchRounds : ℕ → ℕ
   searchRounds before =

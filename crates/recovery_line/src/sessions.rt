@@ -1,7 +1,7 @@
 // Sessions: start, turn, search.
 use book::Process;
 ghost use mathlib.Core.Path.{_≡_};
-ghost use Rattle.recovery_line.specs.Sessions.{startAnswer, startSession, startStrands, turnAnswer, turnSession, turnStrands, searchAnswer, searchLine, searchPassed, searchRounds, searchMessages};
+ghost use Rattle.recovery_line.specs.Sessions.{startAnswer, startSession, startStrands, turnAnswer, turnSession, turnStrands, searchAnswer, searchSet, searchNewer, searchRounds, searchMessages};
 
 // A session begins.
 #[no_mangle]
@@ -75,18 +75,18 @@ pub extern "C" fn recovery_line_search(
     received: &[u32],
     initiator: u64,
     purpose: u64,
-    line: &mut [u64],
-    passed: &mut u64,
+    set: &mut [u64],
+    newer: &mut u64,
     rounds: &mut u64,
     messages: &mut u64,
 ) -> u32
-    ensures { λ r. ⌜ r ≡ searchAnswer (now (shape .entry)) (now (sent .entry)) (now (received .entry)) initiator purpose (now (line .entry)) ⌝ }
-    ensures { λ _. ⌜ now (line .exit) ≡ searchLine (now (shape .entry)) (now (sent .entry)) (now (received .entry)) initiator purpose (now (line .entry)) ⌝ }
-    ensures { λ _. ⌜ now (passed .exit) ≡ searchPassed (now (shape .entry)) (now (sent .entry)) (now (received .entry)) initiator purpose (now (line .entry)) (now (passed .entry)) ⌝ }
-    ensures { λ _. ⌜ now (rounds .exit) ≡ searchRounds (now (shape .entry)) (now (sent .entry)) (now (received .entry)) initiator purpose (now (line .entry)) (now (rounds .entry)) ⌝ }
-    ensures { λ _. ⌜ now (messages .exit) ≡ searchMessages (now (shape .entry)) (now (sent .entry)) (now (received .entry)) initiator purpose (now (line .entry)) (now (messages .entry)) ⌝ }
+    ensures { λ r. ⌜ r ≡ searchAnswer (now (shape .entry)) (now (sent .entry)) (now (received .entry)) initiator purpose (now (set .entry)) ⌝ }
+    ensures { λ _. ⌜ now (set .exit) ≡ searchSet (now (shape .entry)) (now (sent .entry)) (now (received .entry)) initiator purpose (now (set .entry)) ⌝ }
+    ensures { λ _. ⌜ now (newer .exit) ≡ searchNewer (now (shape .entry)) (now (sent .entry)) (now (received .entry)) initiator purpose (now (set .entry)) (now (newer .entry)) ⌝ }
+    ensures { λ _. ⌜ now (rounds .exit) ≡ searchRounds (now (shape .entry)) (now (sent .entry)) (now (received .entry)) initiator purpose (now (set .entry)) (now (rounds .entry)) ⌝ }
+    ensures { λ _. ⌜ now (messages .exit) ≡ searchMessages (now (shape .entry)) (now (sent .entry)) (now (received .entry)) initiator purpose (now (set .entry)) (now (messages .entry)) ⌝ }
 {
-    let question = crate::two_question(shape.len(), line.len(), words::SET_WORDS);
+    let question = crate::two_question(shape.len(), set.len(), words::SET_WORDS);
     if question != 0 {
         return question;
     }
@@ -98,9 +98,9 @@ pub extern "C" fn recovery_line_search(
     if question != 0 {
         return question;
     }
-    let set = found.set;
-    words::put_set(set, line, 0);
-    *passed = words::of_number(found.passed);
+    let ended = found.set;
+    words::put_set(ended, set, 0);
+    *newer = words::of_number(found.newer);
     *rounds = book::wide(found.rounds);
     *messages = book::wide(found.messages);
     0

@@ -11,7 +11,7 @@ use Rattle.varint.specs.Sequence.{Numbers, numbersAt, encodeAll}
 use Rattle.varint.proofs.Sequence.{encodeAll-scan}
 use Rattle.book.specs.Bounds.{groups, largest, mark, mostBytes, entries}
 use Rattle.book.specs.Tables.{shapeOf, sentTable, receivedTable}
-use Rattle.book.specs.Read.{numbersOf, ended, readQuestion, bookRead, noShape, shapeRead, sentRead, receivedRead}
+use Rattle.book.specs.Read.{numbersFound, endWithBytes, readQuestion, bookRead, noShape, shapeRead, sentRead, receivedRead}
 use Rattle.book.specs.Write.{bookBytes}
 use Rattle.book.specs.Layout.{Book, bookNumbers, bookIn}
 use Rattle.book.specs.InTurn.{_then_}
@@ -27,12 +27,12 @@ pub record Accepted (bytes s r : List ℕ) : Type 0 where
   pub few : length bytes ≤ mostBytes
   pub sent : length s ≡ entries
   pub received : length r ≡ entries
-  pub asked : bookQuestion mark (ended bytes) (numbersOf bytes) ≡ 0
+  pub asked : bookQuestion mark (endWithBytes bytes) (numbersFound bytes) ≡ 0
 
 module _ (bytes s r : List ℕ) where
   -- the questions of a read from each one on
   abbrev from-book : Unit {0} → ℕ
-  from-book _ = bookQuestion mark (ended bytes) (numbersOf bytes)
+  from-book _ = bookQuestion mark (endWithBytes bytes) (numbersFound bytes)
 
   abbrev from-lengths : Unit {0} → ℕ
   from-lengths _ = lengthQuestion s r then from-book
@@ -58,17 +58,17 @@ module _ (bytes s r : List ℕ) where
 
   -- the book that was read is good
   pub read-good : readQuestion bytes s r ≡ 0 → Good mark (bookRead bytes)
-  read-good h = numbers-good mark (ended bytes) (numbersOf bytes) (read-taken h .asked) .2
+  read-good h = numbers-good mark (endWithBytes bytes) (numbersFound bytes) (read-taken h .asked) .2
 
   -- and has those bytes
   pub read-bytes : T (areBytes bytes) → readQuestion bytes s r ≡ 0 → bookBytes (bookRead bytes) ≡ bytes
   read-bytes t h =
-      let g = numbers-good mark (ended bytes) (numbersOf bytes) (read-taken h .asked) in
+      let g = numbers-good mark (endWithBytes bytes) (numbersFound bytes) (read-taken h .asked) in
       let stop : numbersAt groups largest bytes 0 .stop ≡ length bytes
       = eqb-true (numbersAt groups largest bytes 0 .stop) (length bytes) (g .0) in
-      let all : bytes ≡ encodeAll (numbersOf bytes) ++ []
+      let all : bytes ≡ encodeAll (numbersFound bytes) ++ []
       = rw (stop, drop-length bytes) at (encodeAll-scan groups largest bytes 0 t) in
-      ap encodeAll (g .1) ∙ sym (append-nil (encodeAll (numbersOf bytes))) ∙ sym all
+      ap encodeAll (g .1) ∙ sym (append-nil (encodeAll (numbersFound bytes))) ∙ sym all
 
   -- what an accepted read leaves
   module _ (h : readQuestion bytes s r ≡ 0) where

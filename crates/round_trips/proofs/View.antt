@@ -7,7 +7,7 @@ use native.Mathlib.Omega.{arith}
 use lib.ListN.{length, take, drop, getD, length-drop, List·getD-append}
 use lib.Seq.{length-take-le, take-take, getD-take, drop-drop, getD-drop, getD-append-add}
 use Rattle.book.specs.declared.Shape.{Shape}
-use Rattle.book.specs.Tables.{others, column, checkpointsOf, processesOf, bookOf}
+use Rattle.book.specs.Tables.{others, partnerColumn, checkpointsOf, processesOf, bookOf}
 use Rattle.book.specs.View.{sum, firstRow, count, S, R}
 use Rattle.book.specs.Layout.{Book}
 use Rattle.book.proofs.Counts.{few-in-all}
@@ -53,17 +53,17 @@ module _ (n j k row : ℕ) (s t : List ℕ) (h : j < n) (few : n ≤ 16) (m : k 
   length-x : length x ≡ n - 1
   length-x = length-others n j (drop row s) h (rw (length-drop row s) (omega arith))
 
-  pub sent-entry : getD (x ++ y) k 0 ≡ getD s (row + column j k) 0
+  pub sent-entry : getD (x ++ y) k 0 ≡ getD s (row + partnerColumn j k) 0
   sent-entry =
       List·getD-append x y 0 k (rw length-x m)
       ∙ getD-others n j k (drop row s) h (rw (length-drop row s) (omega arith)) m
-      ∙ getD-drop row s (column j k) 0
+      ∙ getD-drop row s (partnerColumn j k) 0
 
-  pub received-entry : getD (x ++ y) (n - 1 + k) 0 ≡ getD t (row + column j k) 0
+  pub received-entry : getD (x ++ y) (n - 1 + k) 0 ≡ getD t (row + partnerColumn j k) 0
   received-entry =
       rw (← length-x) (getD-append-add x y k 0)
       ∙ getD-others n j k (drop row t) h (rw (length-drop row t) (omega arith)) m
-      ∙ getD-drop row t (column j k) 0
+      ∙ getD-drop row t (partnerColumn j k) 0
 
 -- ---- the view of accepted tables
 
@@ -111,12 +111,12 @@ module _ (shape : Shape) (s t : List ℕ) (sixteen : length (shape .counts) ≡ 
         (checkpoint-at (shape .n) j (count shape j) (drop (first * 16) s) (drop (first * 16) t) r m
         ∙ rw (drop-drop (r * 16) (first * 16) s, drop-drop (r * 16) (first * 16) t, e))
 
-    pub view-sent : S shape s j (suc r) (column j k) ≡ counter book j r k
+    pub view-sent : S shape s j (suc r) (partnerColumn j k) ≡ counter book j r k
     view-sent =
         rw (checkpoint-held, one-back)
         (sym (sent-entry (shape .n) j k row s t h (c .few) o (rw (c .sent) row-fits) (rw (c .received) row-fits)))
 
-    pub view-received : R shape t j (suc r) (column j k) ≡ counter book j r (shape .n - 1 + k)
+    pub view-received : R shape t j (suc r) (partnerColumn j k) ≡ counter book j r (shape .n - 1 + k)
     view-received =
         rw (checkpoint-held, one-back)
         (sym (received-entry (shape .n) j k row s t h (c .few) o (rw (c .sent) row-fits) (rw (c .received) row-fits)))

@@ -11,7 +11,7 @@ use lib.Pow.{areBytes}
 use Rattle.book.specs.declared.Shape.{Shape}
 use Rattle.book.specs.declared.WriteAnswer.the-variants.{Length}
 use Rattle.book.specs.Bounds.{mostBytes, mostProcesses, entries}
-use Rattle.book.specs.Tables.{shapeOf, sentTable, receivedTable, bookOf, column}
+use Rattle.book.specs.Tables.{shapeOf, sentTable, receivedTable, bookOf, partnerColumn}
 use Rattle.book.specs.View.{count, S, R}
 use Rattle.book.specs.Check.{tablesQuestion}
 use Rattle.book.specs.Read.{readQuestion, shapeRead, sentRead, receivedRead}
@@ -78,5 +78,5 @@ ViewIsBook =
     → tablesQuestion shape sent received ≡ 0 → j < shape .n → r < count shape j → k < shape .n - 1
     → let book : Book = bookOf shape sent received in
     (count shape j ≡ length (process book j))
-    × (S shape sent j (suc r) (column j k) ≡ counter book j r k)
-    × (R shape received j (suc r) (column j k) ≡ counter book j r (shape .n - 1 + k))
+    × (S shape sent j (suc r) (partnerColumn j k) ≡ counter book j r k)
+    × (R shape received j (suc r) (partnerColumn j k) ≡ counter book j r (shape .n - 1 + k))

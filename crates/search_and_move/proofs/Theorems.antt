@@ -14,7 +14,7 @@ use Rattle.consistency.specs.Set.{chosen}
 use Rattle.finder.specs.Line.{checkpoints, noLine}
 use Rattle.message.specs.Formed.{isPurpose}
 use Rattle.session.specs.Workers.{standsOn, hasEnded}
-use Rattle.demand3.specs.Statement.{Beginning, shapeIn, sentIn, receivedIn, viewIn, IsAccepted, after}
+use Rattle.demand3.specs.Statement.{Beginning, shapeLeft, sentLeft, receivedLeft, viewLeft, IsAccepted, after}
 use Rattle.demand3.proofs.Start as start
 use Rattle.demand3.proofs.Theorems.{demand-3, restart-ends}
 use Rattle.restart.specs.Plan.{lineCheckpoint, planned}
@@ -26,17 +26,17 @@ use Rattle.searches.specs.Search.{searchQuestion, setSearched, endOf}
 use Rattle.searches.proofs.Theorems as searches
 use Rattle.search_and_move.specs.Statements.{orderIn, EndedStandOnOrder, RestartedStandOnOldest, SearchedIsOrder}
 
-module _ (b : Beginning) (a : IsAccepted b) (turns : List Process) (j : ℕ) (small : j < shapeIn b .n) where
+module _ (b : Beginning) (a : IsAccepted b) (turns : List Process) (j : ℕ) (small : j < shapeLeft b .n) where
   -- its checkpoint in the order
   abbrev named : ℕ
   named = chosen (orderIn b .from) j
 
-  on-line : named ≡ lineCheckpoint (viewIn b) (b .purpose) j
+  on-line : named ≡ lineCheckpoint (viewLeft b) (b .purpose) j
   unfolding planned
   on-line =
       let is = start.is-search b a in
-      let passed = move-passes (shapeIn b) (sentIn b) (receivedIn b) (b .purpose) (is .accepted) (is .purposed) in
-      from-at (shapeIn b) (sentIn b) (receivedIn b) (b .purpose) passed j small
+      let passed = move-passes (shapeLeft b) (sentLeft b) (receivedLeft b) (b .purpose) (is .accepted) (is .purposed) in
+      from-at (shapeLeft b) (sentLeft b) (receivedLeft b) (b .purpose) passed j small
 
   oldest : b .purpose ≡ 2 → named ≡ 1
   oldest two = on-line ∙ rw two

@@ -9,25 +9,25 @@ use Rattle.book.specs.declared.Process.{Process}
 use Rattle.book.specs.Bounds.{mostProcesses}
 use Rattle.consistency.specs.Set.{chosen}
 use Rattle.session.specs.Workers.{standsOn, hasEnded}
-use Rattle.demand3.specs.Statement.{Beginning, shapeIn, sentIn, receivedIn, IsAccepted, after}
+use Rattle.demand3.specs.Statement.{Beginning, shapeLeft, sentLeft, receivedLeft, IsAccepted, after}
 use Rattle.restart.specs.declared.Order.{Order}
 use Rattle.restart.specs.Calls.{orderGiven}
 use Rattle.searches.specs.Search.{searchQuestion, setSearched}
 
 -- the restart order of the tables that a search runs on, for its purpose
 abbrev pub orderIn : Beginning → Order
-orderIn b = orderGiven (shapeIn b) (sentIn b) (receivedIn b) (b .purpose)
+orderIn b = orderGiven (shapeLeft b) (sentLeft b) (receivedLeft b) (b .purpose)
 
 -- After every list of turns, whoever has ended stands on its checkpoint in the order.
 abbrev pub EndedStandOnOrder : Type 0
 EndedStandOnOrder =
-    (b : Beginning) → IsAccepted b → (turns : List Process) (j : ℕ) → j < shapeIn b .n
+    (b : Beginning) → IsAccepted b → (turns : List Process) (j : ℕ) → j < shapeLeft b .n
     → hasEnded (after b turns .session) j ≡ true → standsOn (after b turns .session) j ≡ chosen (orderIn b .from) j
 
 -- After a bare restart that is checkpoint 1.
 abbrev pub RestartedStandOnOldest : Type 0
 RestartedStandOnOldest =
-    (b : Beginning) → IsAccepted b → b .purpose ≡ 2 → (turns : List Process) (j : ℕ) → j < shapeIn b .n
+    (b : Beginning) → IsAccepted b → b .purpose ≡ 2 → (turns : List Process) (j : ℕ) → j < shapeLeft b .n
     → hasEnded (after b turns .session) j ≡ true
     → (standsOn (after b turns .session) j ≡ 1) × (chosen (orderIn b .from) j ≡ 1)
 

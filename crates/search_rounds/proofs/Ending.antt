@@ -39,7 +39,7 @@ use Rattle.exchange_laws.proofs.Theorems.{termination-passes}
 use Rattle.strands.specs.Strands.{lengthsPosted}
 use Rattle.session.specs.declared.Session.{Session}
 use Rattle.session.specs.Workers.{participantAt, standsOn}
-use Rattle.session_theory.proofs.Search.{Search, IsSearch, size, lead, isPart, ownIn, viewIn, lineIn, newer, most}
+use Rattle.session_theory.proofs.Search.{Search, IsSearch, size, lead, isPart, ownIn, viewIn, lineIn, passedIn, most}
 use Rattle.session_theory.proofs.Invariant.{Part, Phase, reported, one, IsReported, boxAfter, Waits, IsEnding, Closing, Finished}
 use Rattle.session_theory.proofs.Moves.{ToParticipants}
 use Rattle.session_theory.proofs.Counting.{count-parts}
@@ -162,7 +162,7 @@ module _ (g : Search) (s : Session) (box : ℕ → List ℕ) (phase : ℕ → Ph
       let least : (size g - 1) * 1 ≤ (size g - 1) * (2 * ahead + 1) = mul-le-mul-left (size g - 1) (omega arith) in
       omega (arith, w .deliveries-left, count-parts g is, last, least)
 
-  few-rounds : machine .rounds ≤ newer g + 2
+  few-rounds : machine .rounds ≤ passedIn g + 2
   unfolding terminate stepBack takeReport
   few-rounds = omega (arith, w .rounds-left)
 

@@ -37,7 +37,7 @@ use Rattle.session.specs.Workers.{participantAt, standsOn}
 use Rattle.session_theory.proofs.Search.{Search, IsSearch, size, lead, isPart, ownIn, sentIn, most, Between, height}
 use Rattle.session_theory.proofs.Invariant.{Part, Phase, quiet, reported, asked, weight, one, InPhase, IsAsked, IsQuiet, IsReported, boxAfter, Waits}
 use Rattle.session_theory.proofs.Moves.{ToParticipants}
-use Rattle.session_theory.proofs.Few.{newer-few}
+use Rattle.session_theory.proofs.Few.{passed-few}
 use Rattle.session_theory.proofs.Changed.{by-place}
 use Rattle.session_theory.proofs.Counting.{count-parts}
 use Rattle.session_theory.proofs.Boxes.{box-new, box-empty, box-kept}
@@ -83,7 +83,7 @@ module _ (g : Search) (s : Session) (box : ℕ → List ℕ) (phase : ℕ → Ph
   unfolding poll wait stepBack takeReport
   in′ =
       settled g s box phase ahead k is w there rep m arrived none machine (ap (λ (x : InitiatorStep). x .state) step-is) refl refl refl refl
-      refl (omega (arith, w .rounds-left, newer-few g is))
+      refl (omega (arith, w .rounds-left, passed-few g is))
 
   -- the poll goes to those whose column differs
   goes : (q : ℕ) → goesTo outgoing q ≡ flag (polled back) q

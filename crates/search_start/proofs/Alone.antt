@@ -11,7 +11,7 @@ use Rattle.mail.specs.Outgoing.{bytesTo}
 use Rattle.machine.specs.Flags.{flag, nobody}
 use Rattle.initiator.specs.declared.Initiator.{Initiator}
 use Rattle.initiator.specs.declared.InitiatorStep.{InitiatorStep}
-use Rattle.initiator.specs.Begin.{idle}
+use Rattle.initiator.specs.Begin.{withoutWait}
 use Rattle.initiator_laws.proofs.Sends.{sum-none}
 use Rattle.session_theory.proofs.Search.{Search, IsSearch, size, lead, isPart, ownIn, viewIn, lineIn}
 use Rattle.session_theory.proofs.Invariant.{Ends, Finished, Over}
@@ -41,7 +41,7 @@ module _ (g : Search) (is : IsSearch g) (searches : eqb (g .purpose) 2 ≡ false
       ∙ search-alone (ownIn g (lead g)) (g .initiator) (g .purpose) (others-none (size g) (lead g) nobody-takes-part))
 
   ends : Ends g (started g) (bytesTo (begins g .outgoing)) (λ k. false)
-  unfolding idle
+  unfolding withoutWait
   ends = record {
     placed = placed g is;
     ended = ap (λ (m : Initiator). m .ended) machine-ready;
@@ -57,7 +57,7 @@ module _ (g : Search) (is : IsSearch g) (searches : eqb (g .purpose) 2 ≡ false
       (λ j p i k other. absurd (other (omega arith)))
 
   finished : Finished g (started g) (bytesTo (begins g .outgoing)) (λ k. false)
-  unfolding idle
+  unfolding withoutWait
   finished = record {
     ends = ends;
     on-line = λ j h. stands-newest g is searches j h ∙ newest-is-line j h;

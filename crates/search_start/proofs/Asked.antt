@@ -25,7 +25,7 @@ use Rattle.participant.specs.Step.{step}
 use Rattle.participant_laws.specs.Accepts.{endsIt}
 use Rattle.initiator.specs.declared.Initiator.{Initiator}
 use Rattle.initiator.specs.declared.InitiatorStep.{InitiatorStep}
-use Rattle.initiator.specs.Begin.{wait, idle, search}
+use Rattle.initiator.specs.Begin.{wait, withoutWait, beginSearch}
 use Rattle.initiator_laws.proofs.Begun.{begun, begun-column, search-matrix}
 use Rattle.exchange_laws.specs.Ends.{isSearch, SameEntries, IsInvited, PassesDown}
 use Rattle.exchange_laws.proofs.Heads.{search-in}
@@ -43,16 +43,16 @@ use Rattle.search_start.proofs.Searching.{participant-flag, others-some
 -- ---- the invitation
 
 module _ (own : Own) (me : Process) (purpose : ℕ) where
-  invites-to-search : eqb purpose 2 ≡ false → (k : ℕ) → endsIt (messageTo (search own me purpose .outgoing) k) ≡ false
-  unfolding search
+  invites-to-search : eqb purpose 2 ≡ false → (k : ℕ) → endsIt (messageTo (beginSearch own me purpose .outgoing) k) ≡ false
+  unfolding beginSearch
   invites-to-search e k = rw e
 
   -- process k takes its column out of it
   brings-at : (p : Participant) (k : ℕ) → p .me .0 - 1 ≡ k → eqb purpose 2 ≡ false → IsInvited own me purpose p
-      → SameEntries (patch (p .column) (messageTo (search own me purpose .outgoing) k .news)) (column (begun own (me .0 - 1)) k)
+      → SameEntries (patch (p .column) (messageTo (beginSearch own me purpose .outgoing) k .news)) (column (begun own (me .0 - 1)) k)
   brings-at p k here other invited i h =
-      let m : ℕ → Message = λ q. messageTo (search own me purpose .outgoing) q in
-      let known : ℕ → List Count = λ q. column (search own me purpose .state .matrix) q in
+      let m : ℕ → Message = λ q. messageTo (beginSearch own me purpose .outgoing) q in
+      let known : ℕ → List Count = λ q. column (beginSearch own me purpose .state .matrix) q in
       let taken : counters (step own p (m k) .state .column) i ≡ counters (known k) i =
       subst (λ (q : ℕ). counters (step own p (m q) .state .column) i ≡ counters (known q) i) here
       (invitation-taken own me purpose p invited own i h) in
@@ -87,22 +87,22 @@ module _ (g : Search) (is : IsSearch g) (searches : isSearch (g .purpose) ≡ tr
   still-waiting = ap (λ (m : Initiator). m .ended) machine-waits
 
   pub one-round : started g .machine .rounds ≡ 1
-  unfolding wait idle
+  unfolding wait withoutWait
   one-round = ap (λ (m : Initiator). m .rounds) machine-waits
 
   matrix-first : started g .machine .matrix ≡ begun own (lead g)
-  unfolding wait idle
+  unfolding wait withoutWait
   matrix-first = ap (λ (m : Initiator). m .matrix) machine-waits
 
   pub copy-first : started g .machine .copy ≡ begun own (lead g)
-  unfolding wait idle
+  unfolding wait withoutWait
   copy-first = ap (λ (m : Initiator). m .copy) machine-waits
 
   awaits-all : (k : ℕ) → k < 16 → flag (started g .machine .awaited) k ≡ isPart g k
   unfolding wait
   awaits-all k h = ap (λ (m : Initiator). flag (m .awaited) k) machine-waits ∙ participant-flag (size g) (lead g) k h
 
-  sends : begins g .outgoing ≡ search own (g .initiator) (g .purpose) .outgoing
+  sends : begins g .outgoing ≡ beginSearch own (g .initiator) (g .purpose) .outgoing
   sends = outgoing-is g ∙ ap (λ (s : InitiatorStep). s .outgoing) (first-search g is other)
 
   module _ (k : ℕ) (there : isPart g k ≡ true) where
@@ -114,7 +114,7 @@ module _ (g : Search) (is : IsSearch g) (searches : isSearch (g .purpose) ≡ tr
       unknown = λ p h. refl;
     }
 
-    down : PassesDown (size g) (search own (g .initiator) (g .purpose) .outgoing) (firstState g k)
+    down : PassesDown (size g) (beginSearch own (g .initiator) (g .purpose) .outgoing) (firstState g k)
     down = invitation-passes own (g .initiator) (g .purpose) (firstState g k) invited
 
     row-held : SameEntries (row (started g .machine .matrix) k) (participantAt (started g) k .row)
@@ -126,7 +126,7 @@ module _ (g : Search) (is : IsSearch g) (searches : isSearch (g .purpose) ≡ tr
 
     pub is-asked : IsAsked g (started g) k (bytesTo (begins g .outgoing) k)
     is-asked =
-        let o : Outgoing = search own (g .initiator) (g .purpose) .outgoing in
+        let o : Outgoing = beginSearch own (g .initiator) (g .purpose) .outgoing in
         record {
           told = messageTo o k;
           carries = carries g is k there o sends;

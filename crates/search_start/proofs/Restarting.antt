@@ -11,7 +11,7 @@ use Rattle.mail.specs.Outgoing.{messageTo, bytesTo}
 use Rattle.machine.specs.Flags.{flag}
 use Rattle.initiator.specs.declared.Initiator.{Initiator}
 use Rattle.initiator.specs.declared.InitiatorStep.{InitiatorStep}
-use Rattle.initiator.specs.Begin.{idle, restart, begin}
+use Rattle.initiator.specs.Begin.{withoutWait, beginRestart, begin}
 use Rattle.exchange_laws.specs.Ends.{PassesDown}
 use Rattle.exchange_laws.proofs.Theorems.{restart-passes}
 use Rattle.session.specs.Workers.{standsOn}
@@ -25,21 +25,21 @@ use Rattle.search_start.proofs.Invited.{takes-part, carries, reads, pas
 use Rattle.search_start.proofs.Alone.{flag-nobody}
 
 module _ (g : Search) (is : IsSearch g) (two : g .purpose ≡ 2) where
-  first-restart : firstStep g ≡ restart (size g) (g .initiator) 2
+  first-restart : firstStep g ≡ beginRestart (size g) (g .initiator) 2
   unfolding begin
   first-restart = rw two
 
-  machine-idle : started g .machine ≡ idle (size g) (g .initiator) 2 1 (notKnownMatrix (size g))
-  unfolding restart
+  machine-idle : started g .machine ≡ withoutWait (size g) (g .initiator) 2 1 (notKnownMatrix (size g))
+  unfolding beginRestart
   machine-idle = machine-is g ∙ ap (λ (s : InitiatorStep). s .state) first-restart
 
-  sends : begins g .outgoing ≡ restart (size g) (g .initiator) 2 .outgoing
+  sends : begins g .outgoing ≡ beginRestart (size g) (g .initiator) 2 .outgoing
   sends = outgoing-is g ∙ ap (λ (s : InitiatorStep). s .outgoing) first-restart
 
   ending : (k : ℕ) → isPart g k ≡ true → IsEnding g (started g) k (bytesTo (begins g .outgoing) k)
-  unfolding restart
+  unfolding beginRestart
   ending k there =
-      let o : Outgoing = restart (size g) (g .initiator) 2 .outgoing in
+      let o : Outgoing = beginRestart (size g) (g .initiator) 2 .outgoing in
       let down : PassesDown (size g) o (firstState g k) =
       restart-passes (size g) (g .initiator) (firstState g k) (few g is) (takes-part g is k there 2 two) in
       record {
@@ -51,7 +51,7 @@ module _ (g : Search) (is : IsSearch g) (two : g .purpose ≡ 2) where
       }
 
   ends : Ends g (started g) (bytesTo (begins g .outgoing)) (isPart g)
-  unfolding idle
+  unfolding withoutWait
   ends = record {
     placed = placed g is;
     ended = ap (λ (m : Initiator). m .ended) machine-idle;
@@ -61,14 +61,14 @@ module _ (g : Search) (is : IsSearch g) (two : g .purpose ≡ 2) where
   }
 
   on-oldest : (j : ℕ) → j < size g → isPart g j ≡ false → standsOn (started g) j ≡ 1
-  unfolding idle
+  unfolding withoutWait
   on-oldest j h e = elim (worker g j h) [
     | inl at ↦ rw at (stands-lead g (started g) (leads g) ∙ ap (λ (m : Initiator). m .candidate .0) machine-idle)
     | inr there ↦ absurd (true≢false (sym there ∙ e))
   ]
 
   pub restarts : Restarts g (started g) (bytesTo (begins g .outgoing)) (isPart g)
-  unfolding idle
+  unfolding withoutWait
   restarts = record {
     ends = ends;
     on-oldest = on-oldest;

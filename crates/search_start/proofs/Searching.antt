@@ -17,7 +17,7 @@ use Rattle.participant.specs.declared.Participant.{Participant}
 use Rattle.machine_laws.proofs.Flags.{flagged-some, flagged-none}
 use Rattle.initiator.specs.declared.Initiator.{Initiator}
 use Rattle.initiator.specs.declared.InitiatorStep.{InitiatorStep}
-use Rattle.initiator.specs.Begin.{wait, idle, search, begin}
+use Rattle.initiator.specs.Begin.{wait, withoutWait, beginSearch, begin}
 use Rattle.session.specs.Workers.{standsOn}
 use Rattle.session_theory.proofs.Search.{Search, IsSearch, size, lead, ownIn, viewIn, lineIn}
 use Rattle.session_theory.proofs.Facts.{worker, part-within, stands-lead, stands-part, line-is}
@@ -46,27 +46,27 @@ module _ (n me : ℕ) where
 -- ---- the initiator's machine
 
 module _ (own : Own) (me : Process) (purpose : ℕ) where
-  begin-search : eqb purpose 2 ≡ false → begin own me purpose ≡ search own me purpose
+  begin-search : eqb purpose 2 ≡ false → begin own me purpose ≡ beginSearch own me purpose
   unfolding begin
   begin-search e = rw e
 
   pub search-waits : someone (others own me purpose) ≡ true
-      → search own me purpose .state ≡ wait (ready own me purpose) (others own me purpose)
-  unfolding search
+      → beginSearch own me purpose .state ≡ wait (ready own me purpose) (others own me purpose)
+  unfolding beginSearch
   search-waits e = rw e
 
-  pub search-alone : someone (others own me purpose) ≡ false → search own me purpose .state ≡ ready own me purpose
-  unfolding search
+  pub search-alone : someone (others own me purpose) ≡ false → beginSearch own me purpose .state ≡ ready own me purpose
+  unfolding beginSearch
   search-alone e = rw e
 
-  search-newest : search own me purpose .state .candidate .0 ≡ own .count
-  unfolding wait idle
+  search-newest : beginSearch own me purpose .state .candidate .0 ≡ own .count
+  unfolding wait withoutWait
   search-newest = by-search own me purpose (λ m. m .candidate .0 ≡ own .count) refl refl
 
 -- ---- where everybody stands
 
 module _ (g : Search) (is : IsSearch g) (searches : eqb (g .purpose) 2 ≡ false) where
-  pub first-search : firstStep g ≡ search (ownIn g (lead g)) (g .initiator) (g .purpose)
+  pub first-search : firstStep g ≡ beginSearch (ownIn g (lead g)) (g .initiator) (g .purpose)
   first-search = begin-search (ownIn g (lead g)) (g .initiator) (g .purpose) searches
 
   stands-first : started g .machine .candidate .0 ≡ viewIn g .count (lead g)

@@ -20,7 +20,7 @@ use Rattle.participant.specs.Calls.{noParticipant}
 use Rattle.participant_laws.proofs.Theorems.{first-fits}
 use Rattle.initiator.specs.declared.Initiator.{Initiator}
 use Rattle.initiator.specs.declared.InitiatorStep.{InitiatorStep}
-use Rattle.initiator.specs.Begin.{wait, idle, search, restart, begin}
+use Rattle.initiator.specs.Begin.{wait, withoutWait, beginSearch, beginRestart, begin}
 use Rattle.initiator_laws.proofs.Begun as first-matrix
 use Rattle.initiator_laws.proofs.Theorems.{begin-fits}
 use Rattle.strands.specs.Strands.{lengthOn, lengthsPosted}
@@ -41,20 +41,20 @@ module _ (own : Own) (me : Process) (purpose : ℕ) where
 
   -- a searching initiator before it waits
   abbrev pub ready : Initiator
-  ready = idle (own .n) me purpose (own .count) (first-matrix.begun own (me .0 - 1))
+  ready = withoutWait (own .n) me purpose (own .count) (first-matrix.begun own (me .0 - 1))
 
   -- by the two ways to begin
-  by-begin : (P : InitiatorStep → Type 0) → P (restart (own .n) me purpose) → P (search own me purpose) → P (begin own me purpose)
+  by-begin : (P : InitiatorStep → Type 0) → P (beginRestart (own .n) me purpose) → P (beginSearch own me purpose) → P (begin own me purpose)
   unfolding begin
   by-begin P two other = go (eqb purpose 2) refl
     where
-      go : (t : Bool) → eqb purpose 2 ≡ t → P (pick (eqb purpose 2) (restart (own .n) me purpose) (search own me purpose))
+      go : (t : Bool) → eqb purpose 2 ≡ t → P (pick (eqb purpose 2) (beginRestart (own .n) me purpose) (beginSearch own me purpose))
       go true e = rw e two
       go false e = rw e other
 
   -- by whether there is somebody to wait for
-  pub by-search : (P : Initiator → Type 0) → P (wait ready others) → P ready → P (search own me purpose .state)
-  unfolding search
+  pub by-search : (P : Initiator → Type 0) → P (wait ready others) → P ready → P (beginSearch own me purpose .state)
+  unfolding beginSearch
   by-search P waits alone = go (someone others) refl
     where
       go : (t : Bool) → someone others ≡ t → P (pick (someone others) (wait ready others) ready)
@@ -62,15 +62,15 @@ module _ (own : Own) (me : Process) (purpose : ℕ) where
       go false e = rw e alone
 
   begin-me : begin own me purpose .state .me ≡ me
-  unfolding restart wait idle
+  unfolding beginRestart wait withoutWait
   begin-me = by-begin (λ s. s .state .me ≡ me) refl (by-search (λ m. m .me ≡ me) refl refl)
 
   begin-purpose : begin own me purpose .state .purpose ≡ purpose
-  unfolding restart wait idle
+  unfolding beginRestart wait withoutWait
   begin-purpose = by-begin (λ s. s .state .purpose ≡ purpose) refl (by-search (λ m. m .purpose ≡ purpose) refl refl)
 
   begin-to : begin own me purpose .outgoing .to ≡ others
-  unfolding restart search
+  unfolding beginRestart beginSearch
   begin-to = by-begin (λ s. s .outgoing .to ≡ others) refl refl
 
 -- nobody's strand holds anything but what was put on it

@@ -10,7 +10,7 @@ use borrow.Author.Tests.{eq-eqb, ne-eqb}
 use lib.Dec.{eqb}
 use Rattle.book.specs.Bounds.{mark, mostProcesses}
 use Rattle.line_theory.specs.Over.{sumTo}
-use Rattle.line_theory.specs.Sets.{passed}
+use Rattle.line_theory.specs.Sets.{newerThan}
 use Rattle.line_theory.proofs.Over.{sum-ext, sum-le}
 use Rattle.matrix.specs.Matrix.{pick, entry, isPair, notKnownAt}
 use Rattle.mail.specs.Outgoing.{bytesTo}
@@ -21,7 +21,7 @@ use Rattle.initiator_laws.proofs.Begun.{begun, begun-column}
 use Rattle.exchange_laws.specs.Ends.{isSearch}
 use Rattle.exchange_laws.proofs.Heads.{search-in}
 use Rattle.session.specs.Workers.{standsOn}
-use Rattle.session_theory.proofs.Search.{Search, IsSearch, size, lead, isPart, ownIn, viewIn, lineIn, sentIn, newer, Between, height}
+use Rattle.session_theory.proofs.Search.{Search, IsSearch, size, lead, isPart, ownIn, viewIn, lineIn, sentIn, passedIn, Between, height}
 use Rattle.session_theory.proofs.Invariant.{Phase, quiet, asked, weight, InPhase, Waits, Going, one}
 use Rattle.session_theory.proofs.Moves.{begins}
 use Rattle.session_theory.proofs.Facts.{few, own-is, book-is, lead-in}
@@ -111,8 +111,8 @@ module _ (g : Search) (is : IsSearch g) (searches : isSearch (g .purpose) ≡ tr
   copied j p h i = rw (stands-newest g is other j h, copy-first g is searches two) (copied-first j p h i)
 
   -- no set from the line up is higher than the newest
-  height-most : (c : ℕ → ℕ) → Between g c (standsOn (started g)) → height g c ≤ newer g
-  unfolding passed
+  height-most : (c : ℕ → ℕ) → Between g c (standsOn (started g)) → height g c ≤ passedIn g
+  unfolding newerThan
   height-most c between =
       sum-le (size g) (λ j. c j - lineIn g j) (λ j. viewIn g .count j - lineIn g j)
       (λ j h. omega (arith, between j h, stands-newest g is other j h))
@@ -126,7 +126,7 @@ module _ (g : Search) (is : IsSearch g) (searches : isSearch (g .purpose) ≡ tr
       sum-ext 16 (λ k. weight (phase k)) (λ k. 2 * one (isPart g k)) (λ k h. weighs (isPart g k))
       ∙ (sum-twice 16 (λ k. one (isPart g k)) ∙ ap (λ (m : ℕ). 2 * m) (count-parts g is))
 
-  waits : Waits g (started g) (bytesTo (begins g .outgoing)) phase (newer g + 1)
+  waits : Waits g (started g) (bytesTo (begins g .outgoing)) phase (passedIn g + 1)
   unfolding phase asks
   waits = record {
     placed = placed g is;
@@ -139,8 +139,8 @@ module _ (g : Search) (is : IsSearch g) (searches : isSearch (g .purpose) ≡ tr
     marked = marked;
     falls = λ c between j p h i ne. omega (arith, height-most c between);
     rounds-left = omega (arith, one-round g is searches two);
-    deliveries-left = rw (none-delivered g, weights) (enough (size g - 1) (newer g));
+    deliveries-left = rw (none-delivered g, weights) (enough (size g - 1) (passedIn g));
   }
 
   pub going : Going g (started g) (bytesTo (begins g .outgoing))
-  going = (phase, newer g + 1, waits)
+  going = (phase, passedIn g + 1, waits)

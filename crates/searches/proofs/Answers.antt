@@ -14,7 +14,7 @@ use Rattle.book.specs.InTurn.{_then_, ask, answerTo}
 use Rattle.book.specs.Check.{tablesQuestion}
 use Rattle.book.proofs.Questions.{then-passed, then-refused, answer-passed, kept-passed, kept-refused}
 use Rattle.line_theory.specs.Over.{sumTo}
-use Rattle.line_theory.specs.Sets.{passed}
+use Rattle.line_theory.specs.Sets.{newerThan}
 use Rattle.consistency.specs.Set.{chosen}
 use Rattle.finder.specs.Line.{checkpoints, noLine}
 use Rattle.message.specs.Formed.{isNamed, isPurpose}
@@ -28,7 +28,7 @@ use Rattle.demand3.proofs.Kept.{placed-in}
 use Rattle.demand3.proofs.Purposes.{InSession, kept-in}
 use Rattle.searches.specs.Lowest.{searched}
 use Rattle.finder.proofs.Sixteen.{checkpoints-same}
-use Rattle.searches.specs.Search.{EndedThere, searchQuestion, setSearched, passedSearched, roundsSearched, messagesSearched}
+use Rattle.searches.specs.Search.{EndedThere, searchQuestion, setSearched, newerSearched, roundsSearched, messagesSearched}
 use Rattle.searches.specs.Parts.{Among}
 use Rattle.searches.proofs.Ends.{endIn}
 use Rattle.searches.proofs.Theorems.{search-ends, searchIn, is-search, searched-ended, searched-stands}
@@ -49,7 +49,7 @@ module _ (shape : Shape) (sent received : List ℕ) (initiator : Process) (purpo
   Answers answer set newer rounds messages =
       (answer ≡ answerTo question)
       × ((set ≡ setSearched shape sent received initiator purpose)
-      × ((newer ≡ passedSearched shape sent received initiator purpose)
+      × ((newer ≡ newerSearched shape sent received initiator purpose)
       × ((rounds ≡ roundsSearched shape sent received initiator purpose)
       × ((messages ≡ messagesSearched shape sent received initiator purpose)
       × EndedThere shape sent received initiator purpose))))
@@ -70,7 +70,7 @@ module _ (shape : Shape) (sent received : List ℕ) (initiator : Process) (purpo
       → (answer : Answer) (set : List Checkpoint) (newer rounds messages : ℕ)
       → (answer ≡ answerTo found) × ((set ≡ noLine) × ((newer ≡ 0) × ((rounds ≡ 0) × (messages ≡ 0))))
       → Answers answer set newer rounds messages
-  unfolding setSearched passedSearched roundsSearched messagesSearched
+  unfolding setSearched newerSearched roundsSearched messagesSearched
   search-refused found e some answer set newer rounds messages (a, (b, (c, (d, f)))) =
       let fails : question ≡ 0 → ⊥ = λ none. some (sym e ∙ none) in (
         a ∙ ap answerTo (sym e),
@@ -121,7 +121,7 @@ module _ (shape : Shape) (sent received : List ℕ) (initiator : Process) (purpo
 
       pub search-accepted : (newer : ℕ) → newer ≡ sumTo (shape .n) (λ j. count shape j - chosen set j)
           → Answers Accepted set newer (s .machine .rounds) (s .delivered)
-      unfolding setSearched passedSearched roundsSearched messagesSearched
+      unfolding setSearched newerSearched roundsSearched messagesSearched
       search-accepted newer e = (
         sym (answer-passed question accepted),
         (
@@ -130,7 +130,7 @@ module _ (shape : Shape) (sent received : List ℕ) (initiator : Process) (purpo
             e
                 ∙ ap (λ (l : List Checkpoint). sumTo (shape .n) (λ j. count shape j - chosen l j)) set-is
                 ∙ end-passed g (is-search shape sent received initiator purpose long accepted)
-                ∙ sym (kept-passed question 0 (passed (viewIn g) (endIn g)) accepted),
+                ∙ sym (kept-passed question 0 (newerThan (viewIn g) (endIn g)) accepted),
             (
               ap (λ (t : Session). t .machine .rounds) same ∙ sym (kept-passed question 0 (o .session .machine .rounds) accepted),
               (

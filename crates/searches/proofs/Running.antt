@@ -21,7 +21,7 @@ use Rattle.session.specs.Calls.{noSession}
 use Rattle.session.specs.Turns.{Ongoing, started, afterTurn, afterTurns}
 use Rattle.session_theory.proofs.Search.{Search, IsSearch}
 use Rattle.session_theory.proofs.Facts.{few}
-use Rattle.demand3.specs.Statement.{Beginning, shapeIn, IsAccepted, Searches, after, HoldsAfter}
+use Rattle.demand3.specs.Statement.{Beginning, shapeLeft, IsAccepted, Searches, after, HoldsAfter}
 use Rattle.demand3.proofs.Start.{searchOf, read-search}
 use Rattle.demand3.proofs.Theorems.{demand-3, start-has-room}
 use Rattle.searches.specs.Lowest.{strandsInside}
@@ -80,16 +80,16 @@ module _
     g = searchOf b
 
     abbrev later : Unit {0} → ℕ
-    later _ = ask 10 (isNamed (shapeIn b .n) (initiator .0)) then λ _. ask 11 (isPurpose purpose)
+    later _ = ask 10 (isNamed (shapeLeft b .n) (initiator .0)) then λ _. ask 11 (isPurpose purpose)
 
     run-read : readQuestion bytes sent received ≡ 0
     unfolding runQuestion
     run-read = then-none (readQuestion bytes sent received) later accepted .0
 
-    run-asked : (isNamed (shapeIn b .n) (initiator .0) ≡ true) × (isPurpose purpose ≡ true)
+    run-asked : (isNamed (shapeLeft b .n) (initiator .0) ≡ true) × (isPurpose purpose ≡ true)
     unfolding runQuestion
     run-asked =
-        named-purposed (shapeIn b .n) initiator purpose (then-none (readQuestion bytes sent received) later accepted .1)
+        named-purposed (shapeLeft b .n) initiator purpose (then-none (readQuestion bytes sent received) later accepted .1)
 
     is-search : IsSearch g
     is-search = read-search b run-read (run-asked .0) (run-asked .1)
@@ -98,7 +98,7 @@ module _
     run-accepted =
         record {
           read = run-read;
-          start = start-has-room b run-read (run-asked .0) (run-asked .1) (room-inside (shapeIn b .n) (few g is-search));
+          start = start-has-room b run-read (run-asked .0) (run-asked .1) (room-inside (shapeLeft b .n) (few g is-search));
         }
 
     run-holds : Searches b → (turns : List ℕ) → HoldsAfter b (asProcesses turns)

@@ -13,7 +13,7 @@ use Rattle.book.specs.declared.Checkpoint.{Checkpoint}
 use Rattle.book.specs.View.{count}
 use Rattle.book.proofs.Sums.{sum-more, sum-take}
 use Rattle.line_theory.specs.Over.{sumTo}
-use Rattle.line_theory.specs.Sets.{passed}
+use Rattle.line_theory.specs.Sets.{newerThan}
 use Rattle.line_theory.proofs.Over.{sum-ext}
 use Rattle.line_theory.proofs.Accepted.{accepted-few}
 use Rattle.consistency.specs.Set.{chosen}
@@ -125,8 +125,8 @@ module _ (g : Search) (is : IsSearch g) where
       }
 
   -- how many are newer
-  pub end-passed : sumTo (size g) (λ j. count (g .shape) j - chosen (checkpoints (endIn g)) j) ≡ passed (viewIn g) (endIn g)
-  unfolding passed
+  pub end-passed : sumTo (size g) (λ j. count (g .shape) j - chosen (checkpoints (endIn g)) j) ≡ newerThan (viewIn g) (endIn g)
+  unfolding newerThan
   end-passed =
       sum-ext (size g) (λ j. count (g .shape) j - chosen (checkpoints (endIn g)) j) (λ j. count (g .shape) j - endIn g j)
       (λ j small. ap (λ (r : ℕ). count (g .shape) j - r) (chosen-there (endIn g) j (omega (arith, few g is))))

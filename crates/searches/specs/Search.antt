@@ -12,7 +12,7 @@ use Rattle.book.specs.declared.Checkpoint.{Checkpoint}
 use Rattle.book.specs.Bounds.{mostProcesses}
 use Rattle.book.specs.InTurn.{_then_, ask, unlessRefused}
 use Rattle.book.specs.Check.{tablesQuestion}
-use Rattle.line_theory.specs.Sets.{View, passed}
+use Rattle.line_theory.specs.Sets.{View, newerThan}
 use Rattle.line_theory.specs.Search.{line}
 use Rattle.line_theory.specs.OfTables.{viewOf}
 use Rattle.finder.specs.Line.{checkpoints, noLine}
@@ -34,29 +34,30 @@ abbrev pub endOf : View → ℕ → ℕ → ℕ
 endOf v purpose j = pick (eqb purpose 2) (pick (ltb j (v .n)) 1 0) (line v j)
 
 module _ (shape : Shape) (sent received : List ℕ) (initiator : Process) (purpose : ℕ) where
-  abbrev pub refusal : ℕ
-  refusal = searchQuestion shape sent received initiator purpose
+  abbrev pub searchRefusal : ℕ
+  searchRefusal = searchQuestion shape sent received initiator purpose
 
+  -- the set on which everybody ended
   unfoldable pub setSearched : List Checkpoint
-  setSearched = unlessRefused refusal noLine (checkpoints (endOf (viewOf shape sent received) purpose))
+  setSearched = unlessRefused searchRefusal noLine (checkpoints (endOf (viewOf shape sent received) purpose))
 
-  -- how many checkpoints are newer than those: T with purpose 1 or 3; with 2, those newer than checkpoint 1
-  unfoldable pub passedSearched : ℕ
-  passedSearched =
+  -- how many checkpoints are newer than that set's: T with purpose 1 or 3; with 2, those newer than checkpoint 1
+  unfoldable pub newerSearched : ℕ
+  newerSearched =
       let v : View = viewOf shape sent received in
-      unlessRefused refusal 0 (passed v (endOf v purpose))
+      unlessRefused searchRefusal 0 (newerThan v (endOf v purpose))
 
   -- "counts in the result, proved equal to the definition's waits and turns": those of the session that ran
   unfoldable pub roundsSearched : ℕ
-  roundsSearched = unlessRefused refusal 0 (searched shape sent received initiator purpose .session .machine .rounds)
+  roundsSearched = unlessRefused searchRefusal 0 (searched shape sent received initiator purpose .session .machine .rounds)
 
   unfoldable pub messagesSearched : ℕ
-  messagesSearched = unlessRefused refusal 0 (searched shape sent received initiator purpose .session .delivered)
+  messagesSearched = unlessRefused searchRefusal 0 (searched shape sent received initiator purpose .session .delivered)
 
   -- in the session that ran everybody has ended there, and nothing waits
   abbrev pub EndedThere : Type 0
   EndedThere =
-      refusal ≡ 0
+      searchRefusal ≡ 0
       → let s : Session = searched shape sent received initiator purpose .session in
       ((j : ℕ) → j < shape .n
       → (hasEnded s j ≡ true) × (standsOn s j ≡ endOf (viewOf shape sent received) purpose j))

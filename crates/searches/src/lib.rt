@@ -16,7 +16,7 @@ ghost use Rattle.session.specs.Calls.{noSession};
 ghost use Rattle.session.specs.Turns.{started, afterTurns};
 ghost use Rattle.searches.specs.Lowest.{strandsInside, searched};
 ghost use Rattle.searches.specs.Run.{asProcesses, runQuestion, shapeRun, sentRun, receivedRun, sessionRun, CarriesDemand3};
-ghost use Rattle.searches.specs.Search.{searchQuestion, setSearched, passedSearched, roundsSearched, messagesSearched, EndedThere};
+ghost use Rattle.searches.specs.Search.{searchQuestion, setSearched, newerSearched, roundsSearched, messagesSearched, EndedThere};
 
 // How many bytes sixteen processes' strands take: the strands of a search lie inside.
 pub const STRANDS: usize = 1410;
@@ -34,7 +34,7 @@ pub struct RunAnswer {
 pub struct SearchAnswer {
     pub answer: Answer,
     pub set: [Checkpoint; 16],
-    pub passed: usize,
+    pub newer: usize,
     pub rounds: u32,
     pub messages: u32,
 }
@@ -136,13 +136,13 @@ pub fn run(
 // Beside a refusal.
 fn no_search(question: u32) -> SearchAnswer
     requires { ⌜ 1 ≤ question ⌝ }
-    ensures { λ r. ⌜ (r .answer ≡ answerTo question) × ((r .set ≡ noLine) × ((r .passed ≡ 0) × ((r .rounds ≡ 0) × (r .messages ≡ 0)))) ⌝ }
+    ensures { λ r. ⌜ (r .answer ≡ answerTo question) × ((r .set ≡ noLine) × ((r .newer ≡ 0) × ((r .rounds ≡ 0) × (r .messages ≡ 0)))) ⌝ }
 {
     let set = [Checkpoint(0); 16];
     SearchAnswer {
         answer: Answer::Refused(question),
         set,
-        passed: 0,
+        newer: 0,
         rounds: 0,
         messages: 0,
     }
@@ -175,7 +175,7 @@ pub fn search(
 ) -> SearchAnswer
     ensures { λ r. ⌜ r .answer ≡ answerTo (searchQuestion shape (now (sent .entry)) (now (received .entry)) initiator purpose) ⌝ }
     ensures { λ r. ⌜ r .set ≡ setSearched shape (now (sent .entry)) (now (received .entry)) initiator purpose ⌝ }
-    ensures { λ r. ⌜ r .passed ≡ passedSearched shape (now (sent .entry)) (now (received .entry)) initiator purpose ⌝ }
+    ensures { λ r. ⌜ r .newer ≡ newerSearched shape (now (sent .entry)) (now (received .entry)) initiator purpose ⌝ }
     ensures { λ r. ⌜ r .rounds ≡ roundsSearched shape (now (sent .entry)) (now (received .entry)) initiator purpose ⌝ }
     ensures { λ r. ⌜ r .messages ≡ messagesSearched shape (now (sent .entry)) (now (received .entry)) initiator purpose ⌝ }
     ensures { λ _. ⌜ EndedThere shape (now (sent .entry)) (now (received .entry)) initiator purpose ⌝ }
@@ -190,12 +190,12 @@ pub fn search(
     }
     let ended = start_and_finish(shape, sent, received, initiator, purpose);
     let set = finish::stands(ended);
-    let passed = finish::newer(shape, set);
+    let newer = finish::newer(shape, set);
     let machine = ended.machine;
     SearchAnswer {
         answer: Answer::Accepted,
         set,
-        passed,
+        newer,
         rounds: machine.rounds,
         messages: ended.delivered,
     }

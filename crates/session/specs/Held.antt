@@ -7,7 +7,7 @@ use lib.ListN.{length, getD}
 use lib.Dec.{eqb}
 use Rattle.matrix.specs.Matrix.{pick}
 use Rattle.message.specs.declared.Message.{Message}
-use Rattle.message.specs.Formed.{numbersOf}
+use Rattle.message.specs.Formed.{numbersIn}
 use Rattle.machine.specs.Sends.{isTermination}
 use Rattle.participant.specs.declared.Participant.{Participant}
 use Rattle.participant.specs.Calls as participant
@@ -21,7 +21,7 @@ use Rattle.session.specs.Workers.{initiatorOf, participantAt}
 
 -- the sender that a message names: its third number
 abbrev pub senderIn : List ℕ → ℕ
-senderIn s = getD (numbersOf s .found) 2 0
+senderIn s = getD (numbersIn s .found) 2 0
 
 -- to a participant: a termination or the invitation of purpose 2 ends it, any other message asks for a report
 abbrev pub endsSearch : Message → Bool

@@ -19,7 +19,7 @@ use Rattle.session.specs.Turns.{Ongoing, started}
 use Rattle.demand3.specs.Statement.{messageWaits, mostDelivered}
 use Rattle.searches.specs.Lowest.{strandsInside, lowestWaiting, toEnd, searched}
 use Rattle.session_examples.specs.Books.{lent}
-use Rattle.session_examples.specs.Outcome.{Outcome, outcomeOf, searchedIn, ended}
+use Rattle.session_examples.specs.Outcome.{Outcome, outcomeOf, searchedIn, endedOn}
 
 module _ (shape : Shape) (sent received : List ℕ) where
   abbrev once : Ongoing → Process → Ongoing
@@ -62,7 +62,7 @@ module _ (book : List ℕ) (initiator : ℕ) where
   outcomeOnce = outcomeOf (shape .n) (toEndOnce shape sent received (mostDelivered (viewOf shape sent received)) start .session)
 
   pub by-once : (line : List ℕ) (rounds messages : ℕ)
-      → outcomeOnce ≡ ended line rounds messages → searchedIn book initiator ≡ ended line rounds messages
+      → outcomeOnce ≡ endedOn line rounds messages → searchedIn book initiator ≡ endedOn line rounds messages
   unfolding searched
   by-once line rounds messages h =
       ap (λ (o : Ongoing). outcomeOf (shape .n) (o .session))

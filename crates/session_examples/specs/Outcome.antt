@@ -41,6 +41,6 @@ searchedIn book initiator =
     outcomeOf (shape .n) (searched shape (sentRead book lent lent) (receivedRead book lent lent) by 3 .session)
 
 -- everybody has ended on this line, after so many rounds and messages, and nothing waits
-abbrev pub ended : List ℕ → ℕ → ℕ → Outcome
-ended line rounds messages =
+abbrev pub endedOn : List ℕ → ℕ → ℕ → Outcome
+endedOn line rounds messages =
     record { stand = setOf line; rounds = rounds; messages = messages; goesOn = false; waits = false }

@@ -8,7 +8,7 @@ use lib.ListN.{length, replicate}
 use Rattle.book.specs.declared.Process.{Process}
 use Rattle.strands.specs.Strands.{roomForAll}
 use Rattle.session.specs.Workers.{waitsOn}
-use Rattle.demand3.specs.Statement.{Beginning, IsAccepted, Searches, shapeIn, after, nextQuestion}
+use Rattle.demand3.specs.Statement.{Beginning, IsAccepted, Searches, shapeLeft, after, nextQuestion}
 use Rattle.session_examples.specs.Books.{lent, k1}
 
 -- K example 1, searched by process 1 with purpose 3, on strands with room for all messages
@@ -26,15 +26,15 @@ realBook =
 -- A real book meets what demand 3 assumes, and what its last clause assumes of the bytes lent.
 abbrev pub RealBook : Type 0
 RealBook =
-    IsAccepted realBook × Searches realBook × (roomForAll (shapeIn realBook .n) ≤ length (realBook .strands))
+    IsAccepted realBook × Searches realBook × (roomForAll (shapeLeft realBook .n) ≤ length (realBook .strands))
 
 -- an accepted search of two processes, on strands that are one byte too short: right after its start a message waits, and
 -- the turn that names its strand is refused, since the reply to it does not fit
 pub record IsRefusedByRoom (b : Beginning) (p : Process) : Type 0 where
   pub accepted : IsAccepted b
   pub searches : Searches b
-  pub processes : shapeIn b .n ≡ 2
-  pub one-fewer : length (b .strands) + 1 ≡ roomForAll (shapeIn b .n)
+  pub processes : shapeLeft b .n ≡ 2
+  pub one-fewer : length (b .strands) + 1 ≡ roomForAll (shapeLeft b .n)
   pub named : 1 ≤ p .0
   pub waits : waitsOn (after b [] .session) (p .0 - 1) ≡ true
   pub refused : nextQuestion b [] p ≡ 17

@@ -9,9 +9,9 @@ use Rattle.book.specs.View.{sum}
 use Rattle.book.proofs.Sums.{sum-more, sum-take}
 use Rattle.line_theory.specs.Over.{sumTo}
 use Rattle.line_theory.proofs.Accepted.{accepted-few}
-use Rattle.line_theory.proofs.Theorems.{passed-is-distance}
+use Rattle.line_theory.proofs.Theorems.{newer-is-distance}
 use Rattle.machine.specs.Named.{countLimit}
-use Rattle.session_theory.proofs.Search.{Search, IsSearch, size, viewIn, lineIn, newer, most}
+use Rattle.session_theory.proofs.Search.{Search, IsSearch, size, viewIn, lineIn, passedIn, most}
 use Rattle.session_theory.proofs.Facts.{few, line-is}
 
 -- the first counts added up, place by place
@@ -23,12 +23,12 @@ sum-counts counts (suc k) =
     omega (arith, sum-more counts k)
 
 module _ (g : Search) (is : IsSearch g) where
-  pub newer-few : newer g ≤ 256
-  newer-few =
+  pub passed-few : passedIn g ≤ 256
+  passed-few =
       let counts : List ℕ = g .shape .counts in
       omega (
         arith,
-        passed-is-distance (viewIn g) (lineIn g) (line-is g is .is-set),
+        newer-is-distance (viewIn g) (lineIn g) (line-is g is .is-set),
         sum-counts counts (size g),
         sum-take counts (size g),
         accepted-few (g .shape) (g .sent) (g .received) (is .long) (is .accepted),
@@ -37,5 +37,5 @@ module _ (g : Search) (is : IsSearch g) where
   pub most-few : most g < countLimit
   most-few =
       let a : size g - 1 ≤ 15 = omega (arith, few g is) in
-      let b : 2 * newer g + 5 ≤ 517 = omega (arith, newer-few) in
+      let b : 2 * passedIn g + 5 ≤ 517 = omega (arith, passed-few) in
       omega (arith, mul-le-mul a b)

@@ -26,7 +26,7 @@ use Rattle.strands.specs.Strands.{slotSize, strandStart, lengthOn}
 use Rattle.session.specs.declared.Session.{Session}
 use Rattle.session.specs.Workers.{participantAt, standsOn}
 use Rattle.session.specs.Held.{waitingBytes, endsSearch}
-use Rattle.session_theory.proofs.Search.{Search, size, lead, isPart, ownIn, lineIn, sentIn, newer, most, Between, height}
+use Rattle.session_theory.proofs.Search.{Search, size, lead, isPart, ownIn, lineIn, sentIn, passedIn, most, Between, height}
 
 -- ---- who is where
 
@@ -138,7 +138,7 @@ pub record Waits (g : Search) (s : Session) (box : ℕ → List ℕ) (phase : �
   pub falls :
       (c : ℕ → ℕ) → Between g c (standsOn s) → (j p : ℕ) → j < size g → p < size g
       → (sentIn g j (c j) p ≡ entry (s .machine .copy) j p → ⊥) → height g c + 1 ≤ ahead
-  pub rounds-left : s .machine .rounds + ahead ≤ newer g + 2
+  pub rounds-left : s .machine .rounds + ahead ≤ passedIn g + 2
   pub deliveries-left :
       s .delivered + sumTo mostProcesses (λ k. weight (phase k)) + (size g - 1) * (2 * ahead + 1) ≤ most g
 
@@ -177,7 +177,7 @@ pub record Ends (g : Search) (s : Session) (box : ℕ → List ℕ) (open′ : �
 pub record Finished (g : Search) (s : Session) (box : ℕ → List ℕ) (open′ : ℕ → Bool) : Type 0 where
   pub ends : Ends g s box open′
   pub on-line : (j : ℕ) → j < size g → standsOn s j ≡ lineIn g j
-  pub few-rounds : s .machine .rounds ≤ newer g + 2
+  pub few-rounds : s .machine .rounds ≤ passedIn g + 2
   pub deliveries-left : s .delivered + sumTo mostProcesses (λ k. one (open′ k)) ≤ most g
 
 -- ---- a bare restart: the invitation ends each participant on checkpoint 1

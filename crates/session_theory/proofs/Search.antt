@@ -9,7 +9,7 @@ use Rattle.book.specs.declared.Process.{Process}
 use Rattle.book.specs.Bounds.{mostProcesses}
 use Rattle.book.specs.Check.{tablesQuestion}
 use Rattle.line_theory.specs.Over.{sumTo}
-use Rattle.line_theory.specs.Sets.{View, passed}
+use Rattle.line_theory.specs.Sets.{View, newerThan}
 use Rattle.line_theory.specs.Search.{line}
 use Rattle.line_theory.specs.OfTables.{viewOf}
 use Rattle.message.specs.Formed.{isNamed, isPurpose}
@@ -55,12 +55,12 @@ abbrev pub sentIn : Search → ℕ → ℕ → ℕ → ℕ
 sentIn g j r p = viewIn g .S j r p
 
 -- T
-abbrev pub newer : Search → ℕ
-newer g = passed (viewIn g) (lineIn g)
+abbrev pub passedIn : Search → ℕ
+passedIn g = newerThan (viewIn g) (lineIn g)
 
 -- the most messages that can be delivered
 abbrev pub most : Search → ℕ
-most g = (size g - 1) * (2 * newer g + 5)
+most g = (size g - 1) * (2 * passedIn g + 5)
 
 -- a set from the line up to another
 abbrev pub Between : Search → (ℕ → ℕ) → (ℕ → ℕ) → Type 0

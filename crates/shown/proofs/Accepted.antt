@@ -9,7 +9,7 @@ use lib.ListN.{length, take}
 use Rattle.book.specs.declared.Shape.{Shape}
 use Rattle.book.specs.Bounds.{mark}
 use Rattle.book.specs.Questions.{allZero, unusedFrom}
-use Rattle.book.specs.Tables.{column, bookOf}
+use Rattle.book.specs.Tables.{partnerColumn, bookOf}
 use Rattle.book.specs.View.{counterAt, count, S, R}
 use Rattle.book.proofs.Counts.{few-in-all}
 use Rattle.round_trips.specs.WellFormed.{process, counter, WellFormed}
@@ -58,11 +58,11 @@ module _ (shape : Shape) (sent received : List ℕ) (are : AreAccepted shape sen
     own-received : R shape received j (suc r) j ≡ 0
     own-received = received-own shape sent received (are .sixteen) (are .passed) j r h m
 
-    pub other-sent : (k : ℕ) → k < shape .n - 1 → S shape sent j (suc r) (column j k) ≡ counter (bookOf shape sent received) j r k
+    pub other-sent : (k : ℕ) → k < shape .n - 1 → S shape sent j (suc r) (partnerColumn j k) ≡ counter (bookOf shape sent received) j r k
     other-sent = sent-of shape sent received (are .sixteen) (are .passed) j r h m
 
     pub other-received : (k : ℕ) → k < shape .n - 1
-        → R shape received j (suc r) (column j k) ≡ counter (bookOf shape sent received) j r (shape .n - 1 + k)
+        → R shape received j (suc r) (partnerColumn j k) ≡ counter (bookOf shape sent received) j r (shape .n - 1 + k)
     other-received = received-of shape sent received (are .sixteen) (are .passed) j r h m
 
     received-known : (p : ℕ) → p < shape .n → R shape received j (suc r) p < mark

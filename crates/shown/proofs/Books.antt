@@ -9,7 +9,7 @@ use lib.Seq.{take-all, ext-getD}
 use Rattle.book.specs.declared.Shape.{Shape}
 use Rattle.book.specs.Bounds.{mark}
 use Rattle.book.specs.Layout.{width, Book}
-use Rattle.book.specs.Tables.{column, countsOf, shapeOf, sentTable, receivedTable, bookOf}
+use Rattle.book.specs.Tables.{partnerColumn, countsOf, shapeOf, sentTable, receivedTable, bookOf}
 use Rattle.book.specs.View.{sum, count}
 use Rattle.round_trips.specs.WellFormed.{process, checkpoint, counter, WellFormed}
 use Rattle.round_trips.proofs.ToTables.{length-countsOf}
@@ -108,15 +108,15 @@ module _ (v : View) (shows : ShowsBook v) where
       known : (j r : ℕ) → j < v .n → r < v .count j → (k : ℕ) → k < width (v .n) → counter book j r k < mark
       known j r h m =
           by-half (λ k. counter book j r k < mark) (v .n - 1)
-          (λ k i. rw (sent-shown v j h r k m i) (shows .known j (suc r) (column j k) (is-counter v j r k h m i) .0))
-          (λ k i. rw (received-shown v j h r k m i) (shows .known j (suc r) (column j k) (is-counter v j r k h m i) .1))
+          (λ k i. rw (sent-shown v j h r k m i) (shows .known j (suc r) (partnerColumn j k) (is-counter v j r k h m i) .0))
+          (λ k i. rw (received-shown v j h r k m i) (shows .known j (suc r) (partnerColumn j k) (is-counter v j r k h m i) .1))
 
       oldest : (j : ℕ) → j < v .n → (k : ℕ) → k < width (v .n) → counter book j 0 k ≡ 0
       oldest j h =
           let some : 1 ≤ v .count j = shows .some j h in
           by-half (λ k. counter book j 0 k ≡ 0) (v .n - 1)
-          (λ k i. sent-shown v j h 0 k some i ∙ shows .oldest-sent j (column j k) h (is-counter v j 0 k h some i .partner))
-          (λ k i. received-shown v j h 0 k some i ∙ shows .oldest-received j (column j k) h (is-counter v j 0 k h some i .partner))
+          (λ k i. sent-shown v j h 0 k some i ∙ shows .oldest-sent j (partnerColumn j k) h (is-counter v j 0 k h some i .partner))
+          (λ k i. received-shown v j h 0 k some i ∙ shows .oldest-received j (partnerColumn j k) h (is-counter v j 0 k h some i .partner))
 
       rising : (j r : ℕ) → j < v .n → suc r < v .count j → (k : ℕ) → k < width (v .n) → counter book j r k ≤ counter book j (suc r) k
       rising j r h m =
@@ -124,10 +124,10 @@ module _ (v : View) (shows : ShowsBook v) where
           by-half (λ k. counter book j r k ≤ counter book j (suc r) k) (v .n - 1)
           (λ k i.
           rw (sent-shown v j h r k m′ i, sent-shown v j h (suc r) k m i)
-          (shows .rising j (suc r) (column j k) (is-counter v j r k h m′ i) m .0))
+          (shows .rising j (suc r) (partnerColumn j k) (is-counter v j r k h m′ i) m .0))
           (λ k i.
           rw (received-shown v j h r k m′ i, received-shown v j h (suc r) k m i)
-          (shows .rising j (suc r) (column j k) (is-counter v j r k h m′ i) m .1))
+          (shows .rising j (suc r) (partnerColumn j k) (is-counter v j r k h m′ i) m .1))
 
   shown-accepted : AreAccepted (shapeOf book) (sentTable book) (receivedTable book)
   shown-accepted =

@@ -4,11 +4,11 @@ use Prim.Native.Nat.{ℕ, _+_, _-_, _*_, _<_}
 use native.Mathlib.Decide.{decLt}
 use native.Mathlib.Omega.{arith}
 use borrow.Author.Tests.{lt-ltb, le-ltb}
-use Rattle.book.specs.Tables.{column}
+use Rattle.book.specs.Tables.{partnerColumn}
 
 -- no other stands in the own column
-pub column-other : (j k : ℕ) → column j k ≡ j → ⊥
-unfolding column
+pub column-other : (j k : ℕ) → partnerColumn j k ≡ j → ⊥
+unfolding partnerColumn
 column-other j k = elim (decLt k j) [
   | yes h ↦ rw (lt-ltb k j h) (λ e. absurd (omega arith))
   | no h ↦ rw (le-ltb k j (omega arith)) (λ e. absurd (omega arith))

@@ -6,7 +6,7 @@ use native.Mathlib.Omega.{arith}
 use lib.ListN.{length, take, drop, getD, length-append, List·getD-append}
 use lib.Seq.{take-at, drop-at, getD-append-add}
 use Rattle.book.specs.Layout.{width, Book}
-use Rattle.book.specs.Tables.{column}
+use Rattle.book.specs.Tables.{partnerColumn}
 use Rattle.book.proofs.Rows.{column-within}
 use Rattle.round_trips.specs.WellFormed.{process, checkpoint, counter}
 use Rattle.line_theory.specs.Over.{tab}
@@ -21,10 +21,10 @@ use Rattle.shown.proofs.Columns.{column-other}
 
 module _ (v : View) (j r : ℕ) where
   abbrev sentShown : ℕ → ℕ
-  sentShown k = v .S j r (column j k)
+  sentShown k = v .S j r (partnerColumn j k)
 
   abbrev receivedShown : ℕ → ℕ
-  receivedShown k = v .R j r (column j k)
+  receivedShown k = v .R j r (partnerColumn j k)
 
   pub length-counters : length (countersShown v j r) ≡ width (v .n)
   length-counters =
@@ -37,12 +37,12 @@ module _ (v : View) (j r : ℕ) where
   pub received-half : drop (v .n - 1) (countersShown v j r) ≡ tab (v .n - 1) receivedShown
   received-half = drop-at (tab (v .n - 1) sentShown) (tab (v .n - 1) receivedShown) (v .n - 1) (length-tab (v .n - 1) sentShown)
 
-  sent-counter : (k : ℕ) → k < v .n - 1 → getD (countersShown v j r) k 0 ≡ v .S j r (column j k)
+  sent-counter : (k : ℕ) → k < v .n - 1 → getD (countersShown v j r) k 0 ≡ v .S j r (partnerColumn j k)
   sent-counter k h =
       List·getD-append (tab (v .n - 1) sentShown) (tab (v .n - 1) receivedShown) 0 k (omega (arith, length-tab (v .n - 1) sentShown))
       ∙ getD-tab (v .n - 1) sentShown k 0 h
 
-  received-counter : (k : ℕ) → k < v .n - 1 → getD (countersShown v j r) (v .n - 1 + k) 0 ≡ v .R j r (column j k)
+  received-counter : (k : ℕ) → k < v .n - 1 → getD (countersShown v j r) (v .n - 1 + k) 0 ≡ v .R j r (partnerColumn j k)
   received-counter k h =
       let e : v .n - 1 + k ≡ length (tab (v .n - 1) sentShown) + k = omega (arith, length-tab (v .n - 1) sentShown) in
       ap (λ (i : ℕ). getD (countersShown v j r) i 0) e
@@ -63,14 +63,14 @@ module _ (v : View) (j : ℕ) (h : j < v .n) where
   checkpoint-shown r m =
       ap (λ (cs : List (List ℕ)). getD cs r []) process-shown ∙ getD-tab (v .count j) (λ r. countersShown v j (suc r)) r [] m
 
-  pub sent-shown : (r k : ℕ) → r < v .count j → k < v .n - 1 → counter (bookShown v) j r k ≡ v .S j (suc r) (column j k)
+  pub sent-shown : (r k : ℕ) → r < v .count j → k < v .n - 1 → counter (bookShown v) j r k ≡ v .S j (suc r) (partnerColumn j k)
   sent-shown r k m i = ap (λ (c : List ℕ). getD c k 0) (checkpoint-shown r m) ∙ sent-counter v j (suc r) k i
 
-  pub received-shown : (r k : ℕ) → r < v .count j → k < v .n - 1 → counter (bookShown v) j r (v .n - 1 + k) ≡ v .R j (suc r) (column j k)
+  pub received-shown : (r k : ℕ) → r < v .count j → k < v .n - 1 → counter (bookShown v) j r (v .n - 1 + k) ≡ v .R j (suc r) (partnerColumn j k)
   received-shown r k m i = ap (λ (c : List ℕ). getD c (v .n - 1 + k) 0) (checkpoint-shown r m) ∙ received-counter v j (suc r) k i
 
 -- the counters for the others
-pub is-counter : (v : View) (j r k : ℕ) → j < v .n → r < v .count j → k < v .n - 1 → IsCounter v j (suc r) (column j k)
+pub is-counter : (v : View) (j r k : ℕ) → j < v .n → r < v .count j → k < v .n - 1 → IsCounter v j (suc r) (partnerColumn j k)
 is-counter v j r k h m i = record { process = h; first = omega arith; last = m; partner = omega (arith, column-within j k) }
 
 -- ---- views with the same counters show the same book
@@ -80,9 +80,9 @@ module _ (v w : View) (same : SameCounters v w) where
   same-counters j r h m =
       ap₂ {C = List ℕ} (λ (a b : List ℕ). a ++ b)
       (tab-same (v .n - 1) (w .n - 1) (sentShown v j (suc r)) (sentShown w j (suc r)) fewer
-      (λ k i. same .S j (suc r) (column j k) (is-counter v j r k h m i) (column-other j k)))
+      (λ k i. same .S j (suc r) (partnerColumn j k) (is-counter v j r k h m i) (column-other j k)))
       (tab-same (v .n - 1) (w .n - 1) (receivedShown v j (suc r)) (receivedShown w j (suc r)) fewer
-      (λ k i. same .R j (suc r) (column j k) (is-counter v j r k h m i) (column-other j k)))
+      (λ k i. same .R j (suc r) (partnerColumn j k) (is-counter v j r k h m i) (column-other j k)))
     where
       fewer : v .n - 1 ≡ w .n - 1
       fewer = ap (λ (n : ℕ). n - 1) (same .n)
@@ -106,12 +106,12 @@ module _ (v w : View) (e : bookShown v ≡ bookShown w) where
   same-count j h = sym (length-shown v j h) ∙ ap (λ (b : Book). length (process b j)) e ∙ length-shown w j (rw same-n at h)
 
   module _ (j r k : ℕ) (h : j < v .n) (m : r < v .count j) (i : k < v .n - 1) where
-    same-sent : v .S j (suc r) (column j k) ≡ w .S j (suc r) (column j k)
+    same-sent : v .S j (suc r) (partnerColumn j k) ≡ w .S j (suc r) (partnerColumn j k)
     same-sent =
         sym (sent-shown v j h r k m i) ∙ ap (λ (b : Book). counter b j r k) e
         ∙ sent-shown w j (rw same-n at h) r k (rw (same-count j h) at m) (rw same-n at i)
 
-    same-received : v .R j (suc r) (column j k) ≡ w .R j (suc r) (column j k)
+    same-received : v .R j (suc r) (partnerColumn j k) ≡ w .R j (suc r) (partnerColumn j k)
     same-received =
         sym (received-shown v j h r k m i) ∙ ap₂ (λ (b : Book) (n : ℕ). counter b j r (n - 1 + k)) e same-n
         ∙ received-shown w j (rw same-n at h) r k (rw (same-count j h) at m) (rw same-n at i)

@@ -11,7 +11,7 @@ use lib.Seq.{take-all, getD-drop}
 use Rattle.book.specs.declared.Shape.{Shape}
 use Rattle.book.specs.Bounds.{mostProcesses, entries}
 use Rattle.book.specs.Questions.{allZero}
-use Rattle.book.specs.Tables.{padded, tableRow, processRows, rowsFrom, countsOf, others, column}
+use Rattle.book.specs.Tables.{padded, tableRow, processRows, rowsFrom, countsOf, others, partnerColumn}
 use Rattle.book.proofs.Rows.{length-others, getD-others, column-within}
 use Rattle.round_trips.proofs.Row.{row-others}
 use Rattle.round_trips.proofs.Zeros.{cons-zero}
@@ -32,13 +32,13 @@ all-zero (v ∷ l) h = cons-zero v l (eq-eqb v 0 (h 0 (omega arith))) (all-zero 
 
 -- a row of sixteen that is zero elsewhere is the row of what it holds for the others
 row-shown : (n j : ℕ) (f : ℕ → ℕ) → j < n → n ≤ 16 → f j ≡ 0 → ((p : ℕ) → n ≤ p → p < 16 → f p ≡ 0)
-    → tableRow j (tab (n - 1) (λ k. f (column j k))) ≡ tab 16 f
+    → tableRow j (tab (n - 1) (λ k. f (partnerColumn j k))) ≡ tab 16 f
 row-shown n j f h few own absent =
     let row : List ℕ = tab 16 f in
     let long : length row ≡ 16 = length-tab 16 f in
-    let same : others n j row ≡ tab (n - 1) (λ k. f (column j k))
-    = tab-is 0 (n - 1) (λ k. f (column j k)) (others n j row) (length-others n j row h (omega arith))
-    (λ k i. getD-others n j k row h (omega arith) i ∙ getD-tab 16 f (column j k) 0 (omega (arith, column-within j k))) in
+    let same : others n j row ≡ tab (n - 1) (λ k. f (partnerColumn j k))
+    = tab-is 0 (n - 1) (λ k. f (partnerColumn j k)) (others n j row) (length-others n j row h (omega arith))
+    (λ k i. getD-others n j k row h (omega arith) i ∙ getD-tab 16 f (partnerColumn j k) 0 (omega (arith, column-within j k))) in
     let whole : take 16 row ≡ row = take-all 16 row (omega arith) in
     let none : allZero (drop n row) ≡ true
     = all-zero (drop n row) (λ i m.
@@ -92,7 +92,7 @@ all-rows half count row process (suc k) h =
 
 -- one of the two tables
 table-rows : (v : View) (half : List ℕ → List ℕ) (row : ℕ → ℕ → ℕ → ℕ)
-    → ((j r : ℕ) → half (countersShown v j r) ≡ tab (v .n - 1) (λ k. row j r (column j k))) → v .n ≤ 16 → ZeroElsewhere v row
+    → ((j r : ℕ) → half (countersShown v j r) ≡ tab (v .n - 1) (λ k. row j r (partnerColumn j k))) → v .n ≤ 16 → ZeroElsewhere v row
     → rowsFrom half 0 (bookShown v .processes) ≡ allRowsTo (v .count) row (v .n)
 unfolding bookShown
 table-rows v half row is few zero-else =

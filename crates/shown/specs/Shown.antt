@@ -3,13 +3,13 @@
 use mathlib.Core.List.{List, _++_}
 use Prim.Native.Nat.{ℕ, suc, _-_}
 use Rattle.book.specs.Layout.{Book}
-use Rattle.book.specs.Tables.{column}
+use Rattle.book.specs.Tables.{partnerColumn}
 use Rattle.line_theory.specs.Over.{tab}
 use Rattle.line_theory.specs.Sets.{View}
 
 -- a checkpoint: "the messages sent to every other process in rising order, then those received from every other in rising order"
 abbrev pub countersShown : View → ℕ → ℕ → List ℕ
-countersShown v j r = tab (v .n - 1) (λ k. v .S j r (column j k)) ++ tab (v .n - 1) (λ k. v .R j r (column j k))
+countersShown v j r = tab (v .n - 1) (λ k. v .S j r (partnerColumn j k)) ++ tab (v .n - 1) (λ k. v .R j r (partnerColumn j k))
 
 -- process by process its checkpoints, oldest first
 unfoldable pub bookShown : View → Book

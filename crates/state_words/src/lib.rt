@@ -12,8 +12,8 @@ ghost use mathlib.Core.Path.{_≡_};
 ghost use Prim.Native.Nat.{_+_, _≤_};
 ghost use lib.ListN.{length};
 ghost use lib.Seq.{sets};
-ghost use Rattle.words.specs.Participant.{stageWord, stageIn, participantWords, participantDecodes, participantAt, participantIn};
-ghost use Rattle.words.specs.Initiator.{flagWord, flagIn, flagWords, flagsAt, initiatorWords, initiatorDecodes, initiatorAt, initiatorIn};
+ghost use Rattle.words.specs.Participant.{stageWord, stageIn, participantWords, participantDecodes, participantFrom, participantIn};
+ghost use Rattle.words.specs.Initiator.{flagWord, flagIn, flagWords, flagsAt, initiatorWords, initiatorDecodes, initiatorFrom, initiatorIn};
 
 // How many words stand before a state's rows and matrices.
 const HEAD_WORDS: usize = 6;
@@ -58,7 +58,7 @@ pub fn participant_decodes(words: &[u64], at: usize) -> bool
 // The participant's state, of n processes, that they stand for.
 pub fn participant_at(n: usize, words: &[u64], at: usize) -> Participant
     requires { ⌜ at + 38 ≤ length (now words) ⌝ }
-    ensures { λ r. ⌜ r ≡ participantAt n (now (words .entry)) at ⌝ }
+    ensures { λ r. ⌜ r ≡ participantFrom n (now (words .entry)) at ⌝ }
 {
     let row = words::row_at(words, at + 6);
     let column = words::row_at(words, at + 22);
@@ -167,7 +167,7 @@ pub fn initiator_decodes(words: &[u64], at: usize) -> bool
 // The initiator's state, of n processes, that they stand for.
 pub fn initiator_at(n: usize, words: &[u64], at: usize) -> Initiator
     requires { ⌜ at + 534 ≤ length (now words) ⌝ }
-    ensures { λ r. ⌜ r ≡ initiatorAt n (now (words .entry)) at ⌝ }
+    ensures { λ r. ⌜ r ≡ initiatorFrom n (now (words .entry)) at ⌝ }
 {
     let awaited = flags_at(words, at + 6);
     let matrix = words::matrix_at(words, at + 22);

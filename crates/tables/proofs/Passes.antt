@@ -12,7 +12,7 @@ use lib.Dec.{eqb}
 use Rattle.book.specs.declared.Shape.{Shape}
 use Rattle.book.specs.Bounds.{mark}
 use Rattle.book.specs.Layout.{joined}
-use Rattle.book.specs.Tables.{column, checkpointsOf, processesOf}
+use Rattle.book.specs.Tables.{partnerColumn, checkpointsOf, processesOf}
 use Rattle.book.specs.View.{sum, firstRow}
 use Rattle.book.specs.Questions.{counterQuestion, allZero, unusedOf, unusedFrom}
 use Rattle.book.specs.Along.{processQuestion}
@@ -50,7 +50,7 @@ module _ (n j first count : ℕ) (table : List ℕ) (fits : RowsFit n j first co
       sym (asked-end (eqb r 0) table start n j row whole mark (n - 1)
       (turns (Asked whole mark (eqb r 0) table start n j) (n - 1) (record { passed = omega arith; rest = refl })
       (λ k l t. asked-more (eqb r 0) table start n j row whole mark k t _ refl l
-      (counter-passes r (column j k) h (omega (arith, column-within j k)))))
+      (counter-passes r (partnerColumn j k) h (omega (arith, column-within j k)))))
       (omega arith))
 
   unused-passes : allZero (unusedOf n j count (drop (first * 16) table)) ≡ true

@@ -7,7 +7,7 @@ use native.Mathlib.Numerals.{add-one}
 use native.Mathlib.Omega.{arith}
 use lib.ListN.{length, drop, getD, length-drop, drop-of-length-le}
 use lib.Seq.{drop-cons, getD-drop}
-use Rattle.book.specs.Tables.{others, column}
+use Rattle.book.specs.Tables.{others, partnerColumn}
 use Rattle.book.specs.InTurn.{_then_}
 use Rattle.book.specs.Before.{entryBefore, countersBefore}
 use Rattle.book.specs.Questions.{counterQuestion}
@@ -48,15 +48,15 @@ module _ (oldest : Bool) (table : List ℕ) (start n j : ℕ) (row : RowFits old
   length-before = rows-before.length-before n j start table (row .fits .present) wide-before oldest
 
   module _ (k : ℕ) (h : k < n - 1) where
-    there : getD (others n j (drop start table)) k 0 ≡ getD table (start + column j k) 0
-    there = getD-others n j k (drop start table) (row .fits .present) wide h ∙ getD-drop start table (column j k) 0
+    there : getD (others n j (drop start table)) k 0 ≡ getD table (start + partnerColumn j k) 0
+    there = getD-others n j k (drop start table) (row .fits .present) wide h ∙ getD-drop start table (partnerColumn j k) 0
 
-    before-there : getD (countersBefore oldest n j start table) k 0 ≡ entryBefore oldest (start + column j k) table
+    before-there : getD (countersBefore oldest n j start table) k 0 ≡ entryBefore oldest (start + partnerColumn j k) table
     before-there = rows-before.before-there n j start table (row .fits .present) wide-before oldest k (row .later) h
 
   module _ (whole mark k : ℕ) (t : Asked whole mark oldest table start n j k) where
     asked : ℕ
-    asked = counterQuestion mark oldest (entryBefore oldest (start + column j k) table) (getD table (start + column j k) 0)
+    asked = counterQuestion mark oldest (entryBefore oldest (start + partnerColumn j k) table) (getD table (start + partnerColumn j k) 0)
 
     left : ℕ
     left = countersQuestion mark oldest (drop (k + 1) (countersBefore oldest n j start table)) (drop (k + 1) (others n j (drop start table)))
@@ -70,7 +70,7 @@ module _ (oldest : Bool) (table : List ℕ) (start n j : ℕ) (row : RowFits old
         (rw length-before h) (rw length-row h))
 
     module _ (a : ℕ)
-        (same : a ≡ counterQuestion mark oldest (entryBefore oldest (start + column j k) table) (getD table (start + column j k) 0))
+        (same : a ≡ counterQuestion mark oldest (entryBefore oldest (start + partnerColumn j k) table) (getD table (start + partnerColumn j k) 0))
         (h : k < n - 1) where
       pub asked-fail : (a ≡ 0 → ⊥) → a ≡ whole
       unfolding asked left

@@ -49,7 +49,7 @@ fn row_question(table: &[Counter], start: usize, n: usize, j: usize, oldest: boo
 {
     let mut k = 0;
     while k < n - 1 {
-        let at = start + book::column(j, k);
+        let at = start + book::partner_column(j, k);
         let v = book::wide(table[at]);
         let before = book::entry_before(table, at, oldest);
         let question = book::counter_question(book::MARK, oldest, before, v);

@@ -16,16 +16,16 @@ use lib.Bits.{bitAnd, bitOr, mask-lt, or-shifted-r}
 use lib.Pow.{pow-add, shl-exact}
 use Rattle.varint.specs.declared.Numeral.{Numeral}
 use Rattle.varint.specs.declared.Numeral.the-variants.{Number, Refused}
-use Rattle.varint.specs.Ending.{joined, Ending, endedBy}
+use Rattle.varint.specs.Ending.{aboveBits, Ending, endedBy}
 use Rattle.varint.specs.Number.{above, atMost, readGroups, readNumber}
 use Rattle.varint.proofs.Reading.{groups-none, groups-last, groups-more, last-some, at-most-in, at-most-over}
 use Rattle.varint.proofs.WriteTurns.{low-group}
 
-joined-none : (r : Numeral) → r ≡ joined 0 0 r
+joined-none : (r : Numeral) → r ≡ aboveBits 0 0 r
 joined-none Refused = refl
 joined-none (Number high next) = let e : high ≡ 0 + high * 1 = omega arith in ap (λ (v : ℕ). Number v next) e
 
-joined-above : (value shift low : ℕ) (r : Numeral) → joined value shift (above low r) ≡ joined (value + low * 2 ^ shift) (shift + 7) r
+joined-above : (value shift low : ℕ) (r : Numeral) → aboveBits value shift (above low r) ≡ aboveBits (value + low * 2 ^ shift) (shift + 7) r
 joined-above value shift low Refused = refl
 joined-above value shift low (Number high next) =
     let p : high * 128 * 2 ^ shift ≡ high * 2 ^ (shift + 7)
@@ -75,7 +75,7 @@ pub record Sofar (s : List ℕ) (at groups value shift k i : ℕ) : Type 0 where
   pub turns : k ≤ groups
   pub bits : shift ≡ 7 * k
   pub small : value < 2 ^ shift
-  pub whole : readGroups groups true (drop at s) at ≡ joined value shift (readGroups (groups - k) (eqb k 0) (drop i s) i)
+  pub whole : readGroups groups true (drop at s) at ≡ aboveBits value shift (readGroups (groups - k) (eqb k 0) (drop i s) i)
 
 pub sofar-begun : (s : List ℕ) (at groups : ℕ) → Sofar s at groups 0 0 0 at
 sofar-begun s at groups =
@@ -106,7 +106,7 @@ module _ (s : List ℕ) (at groups value shift k i b : ℕ) (byte : b ≡ getD s
     (inside : i < length s) (inv : Sofar s at groups value shift k i) where
   -- the byte is the next group
   split : readGroups groups true (drop at s) at
-      ≡ joined value shift (readGroups (suc (groups - (k + 1))) (eqb k 0) (b ∷ drop (i + 1) s) i)
+      ≡ aboveBits value shift (readGroups (suc (groups - (k + 1))) (eqb k 0) (b ∷ drop (i + 1) s) i)
   split =
       let e : suc (groups - (k + 1)) ≡ groups - k = omega arith in
       rw (e, byte, add-one i, ← drop-cons s i 0 inside) (inv .whole)
@@ -148,7 +148,7 @@ module _ (s : List ℕ) (at groups value shift k i b : ℕ) (byte : b ≡ getD s
         small = rw (pow-add 2 shift 7, mul-comm (2 ^ shift) 128, add-comm value (low * 2 ^ shift)) (digits-lt under (inv .small));
         whole = rw first
             (split
-            ∙ ap (joined value shift) (groups-more (groups - (k + 1)) (eqb k 0) b (drop (i + 1) s) i big)
+            ∙ ap (aboveBits value shift) (groups-more (groups - (k + 1)) (eqb k 0) b (drop (i + 1) s) i big)
             ∙ joined-above value shift low (readGroups (groups - (k + 1)) false (drop (i + 1) s) (i + 1)));
       }
 

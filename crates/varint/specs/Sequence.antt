@@ -28,5 +28,5 @@ unfoldable pub numbersAt : ℕ → ℕ → List ℕ → ℕ → Numbers
 numbersAt groups limit s at = scan groups limit (length s - at) s at
 
 -- the numbers after the first k
-abbrev pub after : ℕ → Numbers → Numbers
-after k ns = record { found = drop k (ns .found); stop = ns .stop }
+abbrev pub numbersAfter : ℕ → Numbers → Numbers
+numbersAfter k ns = record { found = drop k (ns .found); stop = ns .stop }

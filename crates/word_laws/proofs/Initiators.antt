@@ -15,7 +15,7 @@ use Rattle.consistency.specs.Known.{counters}
 use Rattle.machine.specs.Flags.{flag}
 use Rattle.initiator.specs.declared.Initiator.{Initiator}
 use Rattle.words.specs.Words.{word, allBelow, counterLimit, countWords, initiatorLength}
-use Rattle.words.specs.Initiator.{flagWord, flagWords, flagIn, flagsAt, initiatorWords, initiatorDecodes, initiatorAt, initiatorIn}
+use Rattle.words.specs.Initiator.{flagWord, flagWords, flagIn, flagsAt, initiatorWords, initiatorDecodes, initiatorFrom, initiatorIn}
 use Rattle.word_laws.specs.Values.{IsInitiator}
 use Rattle.word_laws.specs.Statements.{InitiatorBack, InitiatorForm}
 use Rattle.word_laws.proofs.Lying.{Lies, lies-self, lies-all, lies-first, lies-second, lies-both, lies-tab-in, lies-tab-out, lies-there}
@@ -24,7 +24,7 @@ use Rattle.word_laws.proofs.Counters.{low-small, counts-back, counts-be
 
 -- ---- flags
 
-flag-back : (f : Bool) → flagIn (flagWord f) ≡ f
+pub flag-back : (f : Bool) → flagIn (flagWord f) ≡ f
 flag-back true = refl
 flag-back false = refl
 
@@ -71,11 +71,11 @@ matrixWords state = countWords 256 (state .matrix)
 abbrev copyWords : Initiator → List ℕ
 copyWords state = countWords 256 (state .copy)
 
-record Parts (words : List ℕ) (at : ℕ) (state : Initiator) : Type 0 where
-  first : Lies words at (heading state)
-  awaited : Lies words (at + 6) (awaitedWords state)
-  matrix : Lies words (at + 22) (matrixWords state)
-  copy : Lies words (at + 278) (copyWords state)
+pub record Parts (words : List ℕ) (at : ℕ) (state : Initiator) : Type 0 where
+  pub first : Lies words at (heading state)
+  pub awaited : Lies words (at + 6) (awaitedWords state)
+  pub matrix : Lies words (at + 22) (matrixWords state)
+  pub copy : Lies words (at + 278) (copyWords state)
 
 module _ (state : Initiator) where
   abbrev counted : List ℕ
@@ -110,7 +110,7 @@ module _ (state : Initiator) where
     next-seam : at + 278 ≡ at + 22 + length (matrixWords state)
     next-seam = omega (arith, matrix-length)
 
-    parts-in : Lies words at (initiatorWords state) → Parts words at state
+    pub parts-in : Lies words at (initiatorWords state) → Parts words at state
     unfolding initiatorWords
     parts-in lies =
         let second : Lies words (at + 6) rest = lies-second (heading state) rest (at + 6) refl lies in
@@ -135,8 +135,8 @@ module _ {words : List ℕ} {at : ℕ} {state : Initiator} (is : IsInitiator sta
   parts : Parts words at state
   parts = parts-in state words at lies
 
-  pub initiator-at : initiatorAt (word words at) words at ≡ state
-  unfolding initiatorAt
+  pub initiator-at : initiatorFrom (word words at) words at ≡ state
+  unfolding initiatorFrom
   initiator-at =
       let n : word words at ≡ state .n = ap (word words) (sym (add-zero at)) ∙ parts .first .each 0 (omega arith) in
       rw (
@@ -168,8 +168,8 @@ module _ {words : List ℕ} {at : ℕ} {state : Initiator} (is : IsInitiator sta
       )
 
 pub initiator-lies : (words : List ℕ) (at : ℕ) → initiatorDecodes words at ≡ true
-    → Lies words at (initiatorWords (initiatorAt (word words at) words at))
-unfolding initiatorDecodes initiatorAt tabFrom
+    → Lies words at (initiatorWords (initiatorFrom (word words at) words at))
+unfolding initiatorDecodes initiatorFrom tabFrom
 initiator-lies words at decodes =
     let ended : Bool = ltb (word words (at + 3)) 2 in
     let rounds : Bool = ltb (word words (at + 5)) counterLimit in
@@ -181,7 +181,7 @@ initiator-lies words at decodes =
     let below : Below counterLimit words (at + 22) 512 = below-in (c .1) in
     let is-flag = flag-form (word words (at + 3)) (ltb-true (word words (at + 3)) 2 (a .0)) in
     let is-count = low-small (word words (at + 5)) (ltb-true (word words (at + 5)) counterLimit (b .0)) in
-    parts-out (initiatorAt (word words at) words at) words at
+    parts-out (initiatorFrom (word words at) words at) words at
     (record {
       first = rw (is-flag, is-count) (rw (add-zero at) at (lies-there words at 6));
       awaited = flags-form (below-in (c .0));
@@ -191,7 +191,7 @@ initiator-lies words at decodes =
 
 -- ---- a slice
 
-decoded-is : (words : List ℕ) → initiatorDecodes words 0 ≡ true → initiatorIn words ≡ initiatorAt (word words 0) words 0
+decoded-is : (words : List ℕ) → initiatorDecodes words 0 ≡ true → initiatorIn words ≡ initiatorFrom (word words 0) words 0
 unfolding initiatorIn
 decoded-is words decoded = rw decoded
 
@@ -204,4 +204,4 @@ initiator-back state is =
 pub initiator-form : InitiatorForm
 initiator-form words long decoded =
     ap initiatorWords (decoded-is words decoded)
-    ∙ lies-all (initiator-lies words 0 decoded) (long ∙ sym (initiator-length (initiatorAt (word words 0) words 0)))
+    ∙ lies-all (initiator-lies words 0 decoded) (long ∙ sym (initiator-length (initiatorFrom (word words 0) words 0)))

@@ -5,5 +5,6 @@ pub mod Plain
 pub mod Participants
 pub mod Initiators
 pub mod Sessions
+pub mod Reading
 pub mod Refusals
 pub mod Theorems

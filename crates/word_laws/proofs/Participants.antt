@@ -16,7 +16,7 @@ use Rattle.participant.specs.declared.Participant.{Participant}
 use Rattle.participant.specs.declared.Stage.{Stage}
 use Rattle.participant.specs.declared.Stage.the-variants.{Before, Searching, Ended}
 use Rattle.words.specs.Words.{word, allBelow, counterLimit, countWords, participantLength}
-use Rattle.words.specs.Participant.{stageWord, stageIn, participantWords, participantDecodes, participantAt, participantIn}
+use Rattle.words.specs.Participant.{stageWord, stageIn, participantWords, participantDecodes, participantFrom, participantIn}
 use Rattle.word_laws.specs.Values.{IsParticipant}
 use Rattle.word_laws.specs.Statements.{ParticipantBack, ParticipantForm}
 use Rattle.word_laws.proofs.Lying.{Lies, lies-self, lies-all, lies-first, lies-second, lies-both, lies-there}
@@ -54,10 +54,10 @@ rowWords state = countWords 16 (state .row)
 abbrev columnWords : Participant → List ℕ
 columnWords state = countWords 16 (state .column)
 
-record Parts (words : List ℕ) (at : ℕ) (state : Participant) : Type 0 where
-  first : Lies words at (heading state)
-  row : Lies words (at + 6) (rowWords state)
-  column : Lies words (at + 22) (columnWords state)
+pub record Parts (words : List ℕ) (at : ℕ) (state : Participant) : Type 0 where
+  pub first : Lies words at (heading state)
+  pub row : Lies words (at + 6) (rowWords state)
+  pub column : Lies words (at + 22) (columnWords state)
 
 module _ (state : Participant) where
   abbrev counted : List ℕ
@@ -78,7 +78,7 @@ module _ (state : Participant) where
     seam : at + 22 ≡ at + 6 + length (rowWords state)
     seam = omega (arith, length-tab 16 (counters (state .row)))
 
-    parts-in : Lies words at (participantWords state) → Parts words at state
+    pub parts-in : Lies words at (participantWords state) → Parts words at state
     unfolding participantWords
     parts-in lies =
         let rest : Lies words (at + 6) counted = lies-second (heading state) counted (at + 6) refl lies in
@@ -100,8 +100,8 @@ module _ {words : List ℕ} {at : ℕ} {state : Participant} (is : IsParticipant
   parts : Parts words at state
   parts = parts-in state words at lies
 
-  pub participant-at : participantAt (word words at) words at ≡ state
-  unfolding participantAt
+  pub participant-at : participantFrom (word words at) words at ≡ state
+  unfolding participantFrom
   participant-at =
       let n : word words at ≡ state .n = ap (word words) (sym (add-zero at)) ∙ parts .first .each 0 (omega arith) in
       rw (
@@ -124,13 +124,13 @@ module _ {words : List ℕ} {at : ℕ} {state : Participant} (is : IsParticipant
       (below-out (below-both 16 16 {next = at + 22} (omega arith) (counts-below (is .row) (parts .row)) (counts-below (is .column) (parts .column))))
 
 pub participant-lies : (words : List ℕ) (at : ℕ) → participantDecodes words at ≡ true
-    → Lies words at (participantWords (participantAt (word words at) words at))
-unfolding participantDecodes participantAt tabFrom
+    → Lies words at (participantWords (participantFrom (word words at) words at))
+unfolding participantDecodes participantFrom tabFrom
 participant-lies words at decodes =
     let tests = and-both (ltb (word words (at + 4)) 3) (allBelow counterLimit words (at + 6) 32) decodes in
     let stage = stage-form (word words (at + 4)) (ltb-true (word words (at + 4)) 3 (tests .0)) in
     let below : Below counterLimit words (at + 6) 32 = below-in (tests .1) in
-    parts-out (participantAt (word words at) words at) words at
+    parts-out (participantFrom (word words at) words at) words at
     (record {
       first = rw stage (rw (add-zero at) at (lies-there words at 6));
       row = counts-form (below-first 16 16 {next = at + 22} (omega arith) below);
@@ -139,7 +139,7 @@ participant-lies words at decodes =
 
 -- ---- a slice
 
-decoded-is : (words : List ℕ) → participantDecodes words 0 ≡ true → participantIn words ≡ participantAt (word words 0) words 0
+decoded-is : (words : List ℕ) → participantDecodes words 0 ≡ true → participantIn words ≡ participantFrom (word words 0) words 0
 unfolding participantIn
 decoded-is words decoded = rw decoded
 
@@ -152,4 +152,4 @@ participant-back state is =
 pub participant-form : ParticipantForm
 participant-form words long decoded =
     ap participantWords (decoded-is words decoded)
-    ∙ lies-all (participant-lies words 0 decoded) (long ∙ sym (participant-length (participantAt (word words 0) words 0)))
+    ∙ lies-all (participant-lies words 0 decoded) (long ∙ sym (participant-length (participantFrom (word words 0) words 0)))

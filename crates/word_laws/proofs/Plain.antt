@@ -9,7 +9,7 @@ use Rattle.line_theory.specs.Over.{tabFrom}
 use Rattle.line_theory.proofs.Over.{length-tab, getD-tab, tab-is}
 use Rattle.consistency.specs.Set.{chosen}
 use Rattle.finder.proofs.Sixteen.{checkpoints-are, chosen-there}
-use Rattle.words.specs.Words.{word, numbersAt}
+use Rattle.words.specs.Words.{word, sixteenAt}
 use Rattle.words.specs.Plain.{numberWords, shapeIn, shapeWords, setIn, setWords}
 use Rattle.word_laws.specs.Statements.{ShapeBack, SetBack, ShapeForm, SetForm}
 use Rattle.word_laws.proofs.Lying.{Lies, lies-self, lies-all, lies-second, lies-both, lies-tab-in, lies-tab-out, lies-there}
@@ -17,13 +17,13 @@ use Rattle.word_laws.proofs.Lying.{Lies, lies-self, lies-all, lies-seco
 -- ---- sixteen numbers
 
 pub numbers-back : {words : List ℕ} {at : ℕ} {numbers : List ℕ} → length numbers ≡ 16 → Lies words at (numberWords numbers)
-    → numbersAt words at ≡ numbers
+    → sixteenAt words at ≡ numbers
 numbers-back {words} {at} {numbers} long lies =
     sym (tab-is 0 16 (λ i. word words (at + i)) numbers long (λ i h. sym (lies-tab-in 16 (word numbers) lies i h)))
 
-pub numbers-form : (words : List ℕ) (at : ℕ) → Lies words at (numberWords (numbersAt words at))
+pub numbers-form : (words : List ℕ) (at : ℕ) → Lies words at (numberWords (sixteenAt words at))
 numbers-form words at =
-    lies-tab-out 16 (word (numbersAt words at)) (λ i h. sym (getD-tab 16 (λ i. word words (at + i)) i 0 h))
+    lies-tab-out 16 (word (sixteenAt words at)) (λ i h. sym (getD-tab 16 (λ i. word words (at + i)) i 0 h))
 
 -- ---- shapes
 
@@ -37,9 +37,9 @@ shape-back shape long =
 pub shape-form : ShapeForm
 unfolding shapeIn shapeWords tabFrom
 shape-form words long =
-    let counts : List ℕ = numberWords (numbersAt words 1) in
+    let counts : List ℕ = numberWords (sixteenAt words 1) in
     lies-all (lies-both (word words 0 ∷ []) counts 1 refl (lies-there words 0 1) (numbers-form words 1))
-    (omega (arith, long, length-tab 16 (word (numbersAt words 1))))
+    (omega (arith, long, length-tab 16 (word (sixteenAt words 1))))
 
 -- ---- sets
 

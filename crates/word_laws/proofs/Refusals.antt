@@ -25,8 +25,8 @@ use Rattle.initiator.specs.Calls as initiator-calls
 use Rattle.session.specs.declared.Session.{Session}
 use Rattle.session.specs.Fits.{sessionNamed, sessionPurposes, sessionFits}
 use Rattle.session.specs.Calls.{turnQuestion}
-use Rattle.words.specs.Participant.{participantAt, participantIn}
-use Rattle.words.specs.Initiator.{initiatorAt, initiatorIn}
+use Rattle.words.specs.Participant.{participantFrom, participantIn}
+use Rattle.words.specs.Initiator.{initiatorFrom, initiatorIn}
 use Rattle.words.specs.Session.{sessionIn}
 use Rattle.word_laws.specs.Statements.{ParticipantUndecoded, InitiatorUndecoded, SessionUndecoded}
 
@@ -118,12 +118,12 @@ module _ (shape : Shape) (sent received : List ℕ) where
 -- ---- what does not decode has no processes
 
 pub participant-undecoded : ParticipantUndecoded
-unfolding participantIn participantAt
+unfolding participantIn participantFrom
 participant-undecoded shape sent received words message out undecoded =
     participant-refused shape sent received (participantIn words) message out (rw undecoded)
 
 pub initiator-undecoded : InitiatorUndecoded
-unfolding initiatorIn initiatorAt
+unfolding initiatorIn initiatorFrom
 initiator-undecoded shape sent received words message out undecoded =
     initiator-refused shape sent received (initiatorIn words) message out (rw undecoded)
 

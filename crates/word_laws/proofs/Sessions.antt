@@ -16,7 +16,7 @@ use Rattle.participant.specs.Calls.{noParticipant}
 use Rattle.session.specs.declared.Session.{Session}
 use Rattle.words.specs.Words.{word, counterLimit, participantLength, sessionLength}
 use Rattle.words.specs.Plain.{numberWords}
-use Rattle.words.specs.Participant.{participantWords, participantDecodes, participantAt}
+use Rattle.words.specs.Participant.{participantWords, participantDecodes, participantFrom}
 use Rattle.words.specs.Initiator.{initiatorWords, initiatorDecodes}
 use Rattle.words.specs.Session.{machineStart, placeStart, lengthsStart, deliveredAt, placeWords, sessionWords, placesDecode, placesAt, sessionDecodes, sessionIn}
 use Rattle.word_laws.specs.Values.{IsSession}
@@ -42,7 +42,7 @@ module _ (participants : List Participant) where
   seam : (at k : ℕ) → at + k * participantLength ≡ at + length (placeWords participants k)
   seam at k = omega (arith, places-length k)
 
-  places-in : {words : List ℕ} {at : ℕ} (k : ℕ) → Lies words at (placeWords participants k) → (j : ℕ) → j < k
+  pub places-in : {words : List ℕ} {at : ℕ} (k : ℕ) → Lies words at (placeWords participants k) → (j : ℕ) → j < k
       → Lies words (at + j * participantLength) (participantWords (place j))
   unfolding placeWords
   places-in zero lies j h = absurd (omega arith)
@@ -91,12 +91,12 @@ module _ (session : Session) where
   abbrev after-heading : List ℕ
   after-heading = machine ++ after-machine
 
-  record Parts (words : List ℕ) : Type 0 where
-    first : Lies words 0 (heading session)
-    initiator : Lies words machineStart machine
-    participants : Lies words (placeStart 0) places
-    lengths-there : Lies words lengthsStart lengths
-    delivered-there : Lies words deliveredAt delivered
+  pub record Parts (words : List ℕ) : Type 0 where
+    pub first : Lies words 0 (heading session)
+    pub initiator : Lies words machineStart machine
+    pub participants : Lies words (placeStart 0) places
+    pub lengths-there : Lies words lengthsStart lengths
+    pub delivered-there : Lies words deliveredAt delivered
 
   machine-end : placeStart 0 ≡ machineStart + length machine
   machine-end = omega (arith, initiator-length (session .machine))
@@ -107,7 +107,7 @@ module _ (session : Session) where
   lengths-end : deliveredAt ≡ lengthsStart + length lengths
   lengths-end = omega (arith, length-tab 16 (word (session .lengths)))
 
-  session-length : length (sessionWords session) ≡ sessionLength
+  pub session-length : length (sessionWords session) ≡ sessionLength
   unfolding sessionWords
   session-length =
       omega (
@@ -121,7 +121,7 @@ module _ (session : Session) where
         lengths-end,
       )
 
-  parts-in : {words : List ℕ} → Lies words 0 (sessionWords session) → Parts words
+  pub parts-in : {words : List ℕ} → Lies words 0 (sessionWords session) → Parts words
   unfolding sessionWords
   parts-in {words} lies =
       let second : Lies words machineStart after-heading = lies-second (heading session) after-heading machineStart refl lies in
@@ -169,7 +169,7 @@ module _ (session : Session) (is : IsSession session) where
   places-are : placesAt words ≡ session .participants
   unfolding placesAt
   places-are =
-      let f : ℕ → Participant = λ k. participantAt (word words (placeStart k)) words (placeStart k) in
+      let f : ℕ → Participant = λ k. participantFrom (word words (placeStart k)) words (placeStart k) in
       sym (tab-is noParticipant 16 f (session .participants) (is .sixteen)
       (λ k h. sym (participant-at (is .participants k h) (place-lies k h))))
 
@@ -210,7 +210,7 @@ module _ (words : List ℕ) (decoded : sessionDecodes words ≡ true) where
   places-lie : Lies words (placeStart 0) (placeWords (placesAt words) 16)
   unfolding placesAt
   places-lie =
-      let f : ℕ → Participant = λ k. participantAt (word words (placeStart k)) words (placeStart k) in
+      let f : ℕ → Participant = λ k. participantFrom (word words (placeStart k)) words (placeStart k) in
       places-out (placesAt words) 16
       (λ k h.
       subst (λ (p : Participant). Lies words (placeStart k) (participantWords p)) (sym (getD-tab 16 f k noParticipant h))

@@ -37,8 +37,8 @@ initiatorDecodes words at =
     && (allBelow 2 words (at + 6) 16 && allBelow counterLimit words (at + 22) 512))
 
 -- the state that they stand for, of n processes
-unfoldable pub initiatorAt : ℕ → List ℕ → ℕ → Initiator
-initiatorAt n words at =
+unfoldable pub initiatorFrom : ℕ → List ℕ → ℕ → Initiator
+initiatorFrom n words at =
     record {
       n = n;
       me = record { 0 = word words (at + 1) };
@@ -53,4 +53,4 @@ initiatorAt n words at =
 
 -- the state in a slice of words; one that does not decode has no processes, as a participant's
 unfoldable pub initiatorIn : List ℕ → Initiator
-initiatorIn words = initiatorAt (pick (initiatorDecodes words 0) (word words 0) 0) words 0
+initiatorIn words = initiatorFrom (pick (initiatorDecodes words 0) (word words 0) 0) words 0

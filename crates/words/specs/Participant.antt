@@ -32,8 +32,8 @@ unfoldable pub participantDecodes : List ℕ → ℕ → Bool
 participantDecodes words at = ltb (word words (at + 4)) 3 && allBelow counterLimit words (at + 6) 32
 
 -- the state that they stand for, of n processes
-unfoldable pub participantAt : ℕ → List ℕ → ℕ → Participant
-participantAt n words at =
+unfoldable pub participantFrom : ℕ → List ℕ → ℕ → Participant
+participantFrom n words at =
     record {
       n = n;
       me = record { 0 = word words (at + 1) };
@@ -48,4 +48,4 @@ participantAt n words at =
 -- The state in a slice of words. One that does not decode is taken for a state of no processes with the same names: questions 10
 -- and 11 judge these, and 13 refuses it, since n is not the tables'.
 unfoldable pub participantIn : List ℕ → Participant
-participantIn words = participantAt (pick (participantDecodes words 0) (word words 0) 0) words 0
+participantIn words = participantFrom (pick (participantDecodes words 0) (word words 0) 0) words 0

@@ -10,7 +10,7 @@ use Rattle.line_theory.specs.Over.{tab}
 use Rattle.consistency.specs.Set.{chosen}
 use Rattle.finder.specs.Line.{checkpoints}
 use Rattle.restart.specs.declared.Order.{Order}
-use Rattle.words.specs.Words.{word, numbersAt}
+use Rattle.words.specs.Words.{word, sixteenAt}
 
 -- an answer as a number: 0, or the question that refuses
 abbrev pub numberOf : Answer → ℕ
@@ -19,7 +19,7 @@ numberOf (Refused question) = question
 
 -- n, then sixteen counts
 unfoldable pub shapeIn : List ℕ → Shape
-shapeIn words = record { n = word words 0; counts = numbersAt words 1 }
+shapeIn words = record { n = word words 0; counts = sixteenAt words 1 }
 
 -- sixteen numbers as words
 abbrev pub numberWords : List ℕ → List ℕ

@@ -10,10 +10,10 @@ use Rattle.matrix.specs.Matrix.{pick}
 use Rattle.participant.specs.declared.Participant.{Participant}
 use Rattle.participant.specs.Calls.{noParticipant}
 use Rattle.session.specs.declared.Session.{Session}
-use Rattle.words.specs.Words.{word, low, counterLimit, numbersAt, initiatorLength, participantLength}
+use Rattle.words.specs.Words.{word, low, counterLimit, sixteenAt, initiatorLength, participantLength}
 use Rattle.words.specs.Plain.{numberWords}
-use Rattle.words.specs.Participant.{participantWords, participantDecodes, participantAt}
-use Rattle.words.specs.Initiator.{initiatorWords, initiatorDecodes, initiatorAt}
+use Rattle.words.specs.Participant.{participantWords, participantDecodes, participantFrom}
+use Rattle.words.specs.Initiator.{initiatorWords, initiatorDecodes, initiatorFrom}
 
 -- where each part begins: the initiator's words, those of the participant at place k, which counts from 0, the lengths, the count
 abbrev pub machineStart : ℕ
@@ -43,7 +43,7 @@ unfoldable pub placesDecode : List ℕ → Bool
 placesDecode words = allTo 16 (λ k. participantDecodes words (placeStart k))
 
 unfoldable pub placesAt : List ℕ → List Participant
-placesAt words = tab {A = Participant} 16 (λ k. participantAt (word words (placeStart k)) words (placeStart k))
+placesAt words = tab {A = Participant} 16 (λ k. participantFrom (word words (placeStart k)) words (placeStart k))
 
 -- does a slice of words stand for a session?
 unfoldable pub sessionDecodes : List ℕ → Bool
@@ -57,8 +57,8 @@ sessionIn words =
       n = pick (sessionDecodes words) (word words 0) 0;
       initiator = record { 0 = word words 1 };
       purpose = word words 2;
-      machine = initiatorAt (word words machineStart) words machineStart;
+      machine = initiatorFrom (word words machineStart) words machineStart;
       participants = placesAt words;
-      lengths = numbersAt words lengthsStart;
+      lengths = sixteenAt words lengthsStart;
       delivered = low (word words deliveredAt);
     }

@@ -58,8 +58,8 @@ abbrev pub low : ℕ → ℕ
 low w = w % counterLimit
 
 -- sixteen numbers, and k counters, from a place on
-abbrev pub numbersAt : List ℕ → ℕ → List ℕ
-numbersAt words at = tab 16 (λ i. word words (at + i))
+abbrev pub sixteenAt : List ℕ → ℕ → List ℕ
+sixteenAt words at = tab 16 (λ i. word words (at + i))
 
 unfoldable pub countsAt : ℕ → List ℕ → ℕ → List Count
 countsAt k words at = tab {A = Count} k (λ i. record { 0 = low (word words (at + i)) })

@@ -8,7 +8,7 @@ ghost use mathlib.Core.Path.{_≡_};
 ghost use Prim.Native.Nat.{_+_, _≤_};
 ghost use lib.ListN.{length};
 ghost use lib.Seq.{sets};
-ghost use Rattle.words.specs.Words.{low, allBelow, numbersAt, countsAt, countWords};
+ghost use Rattle.words.specs.Words.{low, allBelow, sixteenAt, countsAt, countWords};
 ghost use Rattle.words.specs.Plain.{numberOf, shapeIn, shapeWords, setIn, numberWords, setWords, orderWords};
 
 // How long the slices are.
@@ -80,7 +80,7 @@ pub fn all_below(bound: u64, words: &[u64], at: usize, k: usize) -> bool
 // Sixteen numbers from a place on.
 pub fn numbers_at(words: &[u64], at: usize) -> [usize; 16]
     requires { ⌜ at + 16 ≤ length (now words) ⌝ }
-    ensures { λ r. ⌜ r ≡ numbersAt (now (words .entry)) at ⌝ }
+    ensures { λ r. ⌜ r ≡ sixteenAt (now (words .entry)) at ⌝ }
 {
     let mut numbers = [0usize; 16];
     let mut i = 0;

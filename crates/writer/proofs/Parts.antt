@@ -11,7 +11,7 @@ use Rattle.varint.specs.Sequence.{encodeAll}
 use Rattle.varint.proofs.Sequence.{encodeAll-append}
 use Rattle.book.specs.declared.Shape.{Shape}
 use Rattle.book.specs.Layout.{joined, numbersOfProcesses}
-use Rattle.book.specs.Tables.{others, column, checkpointsOf, processesOf}
+use Rattle.book.specs.Tables.{others, partnerColumn, checkpointsOf, processesOf}
 use Rattle.book.specs.Write.{bytesOf}
 use Rattle.book.specs.Fits.{RowsFit, BookFits}
 use Rattle.book.proofs.Rows.{length-others, getD-others, length-checkpointsOf, drop-rows}
@@ -21,14 +21,14 @@ use Rattle.writer.specs.Parts.{rowBytes, checkpointBytes, checkpointsByt
 row-long : {n j row : ℕ} {table : List ℕ} → RowsFit n j row 1 table → n ≤ length (drop (row * 16) table)
 row-long f = simp length-drop (omega arith)
 
-pub row-more : {n j row k v : ℕ} {table : List ℕ} → RowsFit n j row 1 table → k < n - 1 → v ≡ getD table (row * 16 + column j k) 0
+pub row-more : {n j row k v : ℕ} {table : List ℕ} → RowsFit n j row 1 table → k < n - 1 → v ≡ getD table (row * 16 + partnerColumn j k) 0
     → Parts (rowBytes n j row k table) (encode v) (rowBytes n j row (k + 1) table)
 unfolding rowBytes encodeAll
 row-more {n} {j} {row} {k} {v} {table} f h e =
     let from : List ℕ = drop (row * 16) table in
     let w : n ≤ length from = row-long f in
     let i : k < length (others n j from) = rw (length-others n j from (f .present) w) h in
-    record { split = rw (e, drop-cons (others n j from) k 0 i, getD-others n j k from (f .present) w h, getD-drop (row * 16) table (column j k) 0, add-one k) }
+    record { split = rw (e, drop-cons (others n j from) k 0 i, getD-others n j k from (f .present) w h, getD-drop (row * 16) table (partnerColumn j k) 0, add-one k) }
 
 pub row-done : {n j row k : ℕ} {table : List ℕ} → RowsFit n j row 1 table → n - 1 ≤ k → rowBytes n j row k table ≡ []
 unfolding rowBytes encodeAll

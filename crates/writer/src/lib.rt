@@ -7,7 +7,7 @@ ghost use Prim.Native.Nat.{_+_, _*_, _≤_, _<_};
 ghost use lib.ListN.{length, getD};
 ghost use lib.Seq.{sets};
 ghost use lib.Dec.{leb};
-ghost use Rattle.book.specs.Tables.{column};
+ghost use Rattle.book.specs.Tables.{partnerColumn};
 ghost use Rattle.book.specs.Check.{tablesQuestion};
 ghost use Rattle.book.specs.Write.{bytesOf, writeAnswer, bytesWritten};
 ghost use Rattle.book.specs.Fits.{RowsFit, BookFits};
@@ -16,9 +16,9 @@ ghost use Rattle.writer.specs.Parts.{rowBytes, checkpointBytes, checkpoi
 // The k-th counter of a row of process j.
 fn nth_counter(table: &[Counter], j: usize, row: usize, k: usize) -> u64
     requires { ⌜ (row < 256) × ((k < 15) × (length (now table) ≡ 4096)) ⌝ }
-    ensures { λ r. ⌜ r ≡ getD (now (table .entry)) (row * 16 + column j k) 0 ⌝ }
+    ensures { λ r. ⌜ r ≡ getD (now (table .entry)) (row * 16 + partnerColumn j k) 0 ⌝ }
 {
-    let at = row * book::ROW_WIDTH + book::column(j, k);
+    let at = row * book::ROW_WIDTH + book::partner_column(j, k);
     book::wide(table[at])
 }
 

@@ -10,17 +10,17 @@ use Rattle.line_text.proofs.first_lines.Statement.{statement}
 use Rattle.line_text.proofs.first_lines.Tie as tie
 
 -- how long the text is at most: with the first line, and with the word of the second
-one-line : (c : tie.After-word-arg) → c .before .row .result .len ≤ 171
-one-line c = omega (arith, row-room _ _ (c .before .row .ensures))
+one-line : (c : tie.After-word-arg) → c .before .labelled .result .len ≤ 171
+one-line c = omega (arith, row-room _ _ (c .before .labelled .ensures))
 
 word-placed : (c : tie.After-word) → c .word .result .len ≤ 175
 word-placed c = omega (arith, one-line (c .before), c .word .ensures .long)
 
-slice-aggregate-row : tie.Need-slice-aggregate-row
-slice-aggregate-row c = search needs
+slice-aggregate-labelled : tie.Need-slice-aggregate-labelled
+slice-aggregate-labelled c = search needs
 
-row-requires : tie.Need-row-requires
-row-requires c κs = search needs
+labelled-requires : tie.Need-labelled-requires
+labelled-requires c κs = search needs
 
 slice-aggregate-word : tie.Need-slice-aggregate-word
 slice-aggregate-word c = search needs
@@ -37,14 +37,14 @@ push-requires c κs = omega (arith, word-placed (c .before), c .checkpoint-numbe
 returns : tie.Need-returns
 unfolding firstLines
 returns c =
-    grown-more (grown-more (grown-more (c .before .before .before .before .row .ensures) (c .before .before .word .ensures)) (c .before .checkpoint-numbers .ensures)) (c .push .ensures)
+    grown-more (grown-more (grown-more (c .before .before .before .before .labelled .ensures) (c .before .before .word .ensures)) (c .before .checkpoint-numbers .ensures)) (c .push .ensures)
 
 pub first-lines-spec : {M : Type 1} → statement M
 first-lines-spec =
     tie.close
     (tie.spec
-    slice-aggregate-row
-    row-requires
+    slice-aggregate-labelled
+    labelled-requires
     slice-aggregate-word
     word-requires
     checkpoint-numbers-requires

@@ -10,15 +10,15 @@ use Rattle.line_text.proofs.found_text.Statement.{statement}
 use Rattle.line_text.proofs.found_text.Tie as tie
 
 -- how long the text is at most with its first lines
-two-lines : (c : tie.After-row-arg) → c .before .first-lines .result .len ≤ 372
+two-lines : (c : tie.After-labelled-arg) → c .before .first-lines .result .len ≤ 372
 two-lines c =
     omega (arith, c .before .first-lines .ensures .long, first-lines-most (c .before .before .before .args .n) (c .before .before .before .args .set) (c .before .before .before .pre))
 
-three-lines : (c : tie.After-row-arg2) → c .before .row .result .len ≤ 400
-three-lines c = omega (arith, two-lines (c .before .before), row-room _ _ (c .before .row .ensures))
+three-lines : (c : tie.After-labelled-arg2) → c .before .labelled .result .len ≤ 400
+three-lines c = omega (arith, two-lines (c .before .before), row-room _ _ (c .before .labelled .ensures))
 
-four-lines : (c : tie.After-row-arg3) → c .before .row2 .result .len ≤ 428
-four-lines c = omega (arith, three-lines (c .before .before), row-room _ _ (c .before .row2 .ensures))
+four-lines : (c : tie.After-labelled-arg3) → c .before .labelled2 .result .len ≤ 428
+four-lines c = omega (arith, three-lines (c .before .before), row-room _ _ (c .before .labelled2 .ensures))
 
 empty-requires : tie.Need-empty-requires
 empty-requires c κs = search needs
@@ -26,30 +26,30 @@ empty-requires c κs = search needs
 first-lines-requires : tie.Need-first-lines-requires
 first-lines-requires c κs = search needs
 
-slice-aggregate-row : tie.Need-slice-aggregate-row
-slice-aggregate-row c = search needs
+slice-aggregate-labelled : tie.Need-slice-aggregate-labelled
+slice-aggregate-labelled c = search needs
 
-row-requires : tie.Need-row-requires
-row-requires c κs = omega (arith, two-lines c)
+labelled-requires : tie.Need-labelled-requires
+labelled-requires c κs = omega (arith, two-lines c)
 
-slice-aggregate-row-2 : tie.Need-slice-aggregate-row-2
-slice-aggregate-row-2 c = search needs
+slice-aggregate-labelled-2 : tie.Need-slice-aggregate-labelled-2
+slice-aggregate-labelled-2 c = search needs
 
-row-requires-2 : tie.Need-row-requires-2
-row-requires-2 c κs = omega (arith, three-lines c)
+labelled-requires-2 : tie.Need-labelled-requires-2
+labelled-requires-2 c κs = omega (arith, three-lines c)
 
-slice-aggregate-row-3 : tie.Need-slice-aggregate-row-3
-slice-aggregate-row-3 c = search needs
+slice-aggregate-labelled-3 : tie.Need-slice-aggregate-labelled-3
+slice-aggregate-labelled-3 c = search needs
 
-row-requires-3 : tie.Need-row-requires-3
-row-requires-3 c κs = omega (arith, four-lines c)
+labelled-requires-3 : tie.Need-labelled-requires-3
+labelled-requires-3 c κs = omega (arith, four-lines c)
 
 returns : tie.Need-returns
 unfolding foundText
 returns c =
     let at = c .before .before .before .before .before .before .before .before in
     let most = found-most (at .args .n) (at .args .set) (at .args .passed) (at .args .rounds) (at .args .messages) (at .pre) in
-    let grown = grown-more (grown-more (grown-more (c .before .before .before .before .before .before .first-lines .ensures) (c .before .before .before .before .row .ensures)) (c .before .before .row2 .ensures)) (c .row3 .ensures) in
+    let grown = grown-more (grown-more (grown-more (c .before .before .before .before .before .before .first-lines .ensures) (c .before .before .before .before .labelled .ensures)) (c .before .before .labelled2 .ensures)) (c .labelled3 .ensures) in
     holds-grown (c .before .before .before .before .before .before .before .empty .ensures) most grown
 
 pub found-text-spec : {M : Type 1} → statement M
@@ -58,10 +58,10 @@ found-text-spec =
     (tie.spec
     empty-requires
     first-lines-requires
-    slice-aggregate-row
-    row-requires
-    slice-aggregate-row-2
-    row-requires-2
-    slice-aggregate-row-3
-    row-requires-3
+    slice-aggregate-labelled
+    labelled-requires
+    slice-aggregate-labelled-2
+    labelled-requires-2
+    slice-aggregate-labelled-3
+    labelled-requires-3
     returns)

@@ -10,15 +10,15 @@ use Rattle.line_text.proofs.refused_text.Tie as tie
 empty-requires : tie.Need-empty-requires
 empty-requires c κs = search needs
 
-slice-aggregate-row : tie.Need-slice-aggregate-row
-slice-aggregate-row c = search needs
+slice-aggregate-labelled : tie.Need-slice-aggregate-labelled
+slice-aggregate-labelled c = search needs
 
-row-requires : tie.Need-row-requires
-row-requires c κs = search needs
+labelled-requires : tie.Need-labelled-requires
+labelled-requires c κs = search needs
 
 returns : tie.Need-returns
 unfolding refusedText
-returns c = holds-grown (c .before .before .empty .ensures) (refused-most (c .before .before .before .args .question)) (c .row .ensures)
+returns c = holds-grown (c .before .before .empty .ensures) (refused-most (c .before .before .before .args .question)) (c .labelled .ensures)
 
 pub refused-text-spec : {M : Type 1} → statement M
-refused-text-spec = tie.close (tie.spec empty-requires slice-aggregate-row row-requires returns)
+refused-text-spec = tie.close (tie.spec empty-requires slice-aggregate-labelled labelled-requires returns)

@@ -15,7 +15,7 @@ returns c =
     let a = c .before .before .before .before .before .args in
     let found = c .before .before .search in
     let told = found .ensures in
-    searched-text (a .shape) (a .sent .now) (a .received .now) (found .result .set) (found .result .passed) (found .result .rounds)
+    searched-text (a .shape) (a .sent .now) (a .received .now) (found .result .set) (found .result .newer) (found .result .rounds)
     (found .result .messages)
     (c .found-text .result)
     (told .1 .0)

@@ -41,14 +41,14 @@ returns c =
     sofar-short _ _ _ _ _ _ _ (at-loop .before .before .before .pre) _ _ _ (at-loop .loop .inv) (c .before .before .before .loop-test .taken) _
     (sym (c .before .before .read-short .ensures) ∙ c .enum-told .given .1)
 
-column-requires : tie.Need-column-requires Inv-loop μ-loop
-column-requires c κs = omega arith
+partner-column-requires : tie.Need-partner-column-requires Inv-loop μ-loop
+partner-column-requires c κs = omega arith
 
 -- the entry lies in the row
-within : (c : tie.After-column Inv-loop μ-loop)
-    → c .column .result < c .before .before .before .before .before .before .before .before .before .args .n
+within : (c : tie.After-partner-column Inv-loop μ-loop)
+    → c .partner-column .result < c .before .before .before .before .before .before .before .before .before .args .n
 within c =
-    let h : c .column .result ≤ c .before .before .before .before .before .before .loop .k + 1 = rw (c .column .ensures) (column-within _ _) in
+    let h : c .partner-column .result ≤ c .before .before .before .before .before .before .loop .k + 1 = rw (c .partner-column .ensures) (column-within _ _) in
     omega arith
 
 add-c : tie.Need-add-c Inv-loop μ-loop
@@ -75,7 +75,7 @@ returns-2 c =
     let at-loop-test = at-v .before .before .before in
     let at-loop = at-loop-test .before in
     sofar-refused _ _ _ _ _ _ _ (at-loop .before .before .before .pre) _ _ _ (at-loop .loop .inv) (at-loop-test .loop-test .taken) _ _ _ _ _
-    (sym (at-v .before .before .read-short .ensures) ∙ at-v .v .given .1) (at-column .column .ensures) (c .before .before .entry-before .ensures)
+    (sym (at-v .before .before .read-short .ensures) ∙ at-v .v .given .1) (at-column .partner-column .ensures) (c .before .before .entry-before .ensures)
     (c .before .counter-question .ensures) _ (c .if1 .taken)
 
 cast-table : tie.Need-cast-table Inv-loop μ-loop
@@ -105,7 +105,7 @@ loop-again c =
     let at-loop-test = at-v .before .before .before in
     let at-loop = at-loop-test .before in
     sofar-more _ _ _ _ _ _ _ (at-loop .before .before .before .pre) _ _ _ (at-loop .loop .inv) (at-loop-test .loop-test .taken) _ _ _ _ _
-    (sym (at-v .before .before .read-short .ensures) ∙ at-v .v .given .1) (at-column .column .ensures) (c .before .before .entry-before .ensures)
+    (sym (at-v .before .before .read-short .ensures) ∙ at-v .v .given .1) (at-column .partner-column .ensures) (c .before .before .entry-before .ensures)
     (c .before .counter-question .ensures) (c .if1 .left)
 
 same-length-3 : tie.Need-same-length-3 Inv-loop μ-loop
@@ -127,7 +127,7 @@ take-counters-spec =
     enum-told
     same-length
     returns
-    column-requires
+    partner-column-requires
     add-c
     entry-before-requires
     counter-question-requires

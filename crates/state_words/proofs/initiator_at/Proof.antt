@@ -1,6 +1,6 @@
 -- `initiator_at` meets its contract.
 use borrow.Author.Needs.{needs}
-use Rattle.words.specs.Initiator.{initiatorAt}
+use Rattle.words.specs.Initiator.{initiatorFrom}
 use Rattle.state_words.proofs.initiator_at.Statement.{statement}
 use Rattle.state_words.proofs.initiator_at.Tie as tie
 
@@ -77,7 +77,7 @@ low-requires : tie.Need-low-requires
 low-requires c κs = search needs
 
 returns : tie.Need-returns
-unfolding initiatorAt
+unfolding initiatorFrom
 returns c =
     let second = c .before .before in
     let first = second .before .before .before .before in

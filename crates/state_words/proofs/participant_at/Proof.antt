@@ -1,6 +1,6 @@
 -- `participant_at` meets its contract.
 use borrow.Author.Needs.{needs}
-use Rattle.words.specs.Participant.{participantAt}
+use Rattle.words.specs.Participant.{participantFrom}
 use Rattle.state_words.proofs.participant_at.Statement.{statement}
 use Rattle.state_words.proofs.participant_at.Tie as tie
 
@@ -74,7 +74,7 @@ number-requires-3 : tie.Need-number-requires-3
 number-requires-3 c κs = search needs
 
 returns : tie.Need-returns
-unfolding participantAt
+unfolding participantFrom
 returns c =
     let stage = c .before .before in
     let second = stage .before .before .before in

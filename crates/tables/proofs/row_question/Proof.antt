@@ -5,7 +5,7 @@ use native.Mathlib.Omega.{arith}
 use borrow.Author.Needs.{needs}
 use lib.ListN.{drop, getD}
 use Rattle.book.specs.Bounds.{mark}
-use Rattle.book.specs.Tables.{others, column}
+use Rattle.book.specs.Tables.{others, partnerColumn}
 use Rattle.book.specs.Questions.{counterQuestion}
 use Rattle.book.specs.Along.{countersQuestion}
 use Rattle.book.specs.Before.{entryBefore, countersBefore}
@@ -26,14 +26,14 @@ loop-holds c = record { passed = search needs; rest = refl }
 sub-loop : tie.Need-sub-loop Inv-loop μ-loop
 sub-loop c = omega arith
 
-column-requires : tie.Need-column-requires Inv-loop μ-loop
-column-requires c κs = omega arith
+partner-column-requires : tie.Need-partner-column-requires Inv-loop μ-loop
+partner-column-requires c κs = omega arith
 
 -- the entry lies in the row
-within : (c : tie.After-column Inv-loop μ-loop) → c .column .result < c .before .before .before .before .args .n
+within : (c : tie.After-partner-column Inv-loop μ-loop) → c .partner-column .result < c .before .before .before .before .args .n
 within c =
     let a = c .before .before .before .before .args in
-    omega (arith, c .column .ensures, column-within (a .j) (c .before .before .loop .k))
+    omega (arith, c .partner-column .ensures, column-within (a .j) (c .before .before .loop .k))
 
 add-at : tie.Need-add-at Inv-loop μ-loop
 add-at c = omega (arith, within c)
@@ -58,10 +58,10 @@ counter-question-requires c κs = search needs
 -- the answer is that of the k-th counter
 found : (c : tie.After-counter-question Inv-loop μ-loop)
     → let a = c .before .before .before .before .before .before .before .before .args in
-    let at = a .start + column (a .j) (c .before .before .before .before .before .before .loop .k) in
+    let at = a .start + partnerColumn (a .j) (c .before .before .before .before .before .before .loop .k) in
     c .counter-question .result ≡ counterQuestion mark (a .oldest) (entryBefore (a .oldest) at (a .table .now)) (getD (a .table .now) at 0)
 found c =
-    rw (← c .before .before .before .before .column .ensures, ← c .before .entry-before .ensures, ← c .before .before .wide .ensures)
+    rw (← c .before .before .before .before .partner-column .ensures, ← c .before .entry-before .ensures, ← c .before .before .wide .ensures)
     (c .counter-question .ensures)
 
 returns : tie.Need-returns Inv-loop μ-loop
@@ -93,7 +93,7 @@ row-question-spec =
     μ-loop
     loop-holds
     sub-loop
-    column-requires
+    partner-column-requires
     add-at
     mul-wide
     shared-slice-read-wide

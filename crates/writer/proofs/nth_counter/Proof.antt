@@ -11,11 +11,11 @@ use Rattle.writer.proofs.nth_counter.Tie as tie
 mul-at : tie.Need-mul-at
 mul-at c = search needs
 
-column-requires : tie.Need-column-requires
-column-requires c κs = search needs
+partner-column-requires : tie.Need-partner-column-requires
+partner-column-requires c κs = search needs
 
-near : (c : tie.After-column) → c .column .result ≤ c .before .before .args .k + 1
-near c = rw (c .column .ensures) (column-within _ _)
+near : (c : tie.After-partner-column) → c .partner-column .result ≤ c .before .before .args .k + 1
+near c = rw (c .partner-column .ensures) (column-within _ _)
 
 add-at : tie.Need-add-at
 add-at c = omega (arith, near c)
@@ -32,9 +32,9 @@ wide-requires c κs = search needs
 returns : tie.Need-returns
 returns c =
     let a = c .before .before .before .before .args in
-    c .wide .ensures ∙ ap (λ (i : ℕ). getD (a .table .now) (a .row * 16 + i) 0) (c .before .before .column .ensures)
+    c .wide .ensures ∙ ap (λ (i : ℕ). getD (a .table .now) (a .row * 16 + i) 0) (c .before .before .partner-column .ensures)
 
 pub nth-counter-spec : {M : Type 1} → statement M
 nth-counter-spec =
     tie.close
-    (tie.spec mul-at column-requires add-at mul-wide shared-slice-read-wide wide-requires returns)
+    (tie.spec mul-at partner-column-requires add-at mul-wide shared-slice-read-wide wide-requires returns)

@@ -15,18 +15,18 @@ returns : tie.Need-returns
 returns c =
     let at-two-question = c .before in
     let a = at-two-question .before .before .before .before .before .args in
-    search-wrong (a .shape .now) (a .sent .now) (a .received .now) (a .initiator) (a .purpose) (a .line .now) (a .passed .now)
+    search-wrong (a .shape .now) (a .sent .now) (a .received .now) (a .initiator) (a .purpose) (a .set .now) (a .newer .now)
     (a .rounds .now) (a .messages .now)
     (at-two-question .two-question .ensures) (c .if1 .taken)
 
 -- the slices have their lengths
 long : (c : tie.Else1)
     → let a = c .before .before .before .before .before .before .args in
-    (length (a .shape .now) ≡ 17) × (length (a .line .now) ≡ 16)
+    (length (a .shape .now) ≡ 17) × (length (a .set .now) ≡ 16)
 long c =
     let at-two-question = c .before in
     let a = at-two-question .before .before .before .before .before .args in
-    two-long 17 16 (a .shape .now) (a .line .now) (at-two-question .two-question .ensures) (c .if1 .left)
+    two-long 17 16 (a .shape .now) (a .set .now) (at-two-question .two-question .ensures) (c .if1 .left)
 
 shape-in-requires : tie.Need-shape-in-requires
 shape-in-requires c κs = long c .0
@@ -49,7 +49,7 @@ returns-2 c =
     let at-if1 = at-shape-in .before in
     let at-two-question = at-if1 .before in
     let a = at-two-question .before .before .before .before .before .args in
-    search-refused (a .shape .now) (a .sent .now) (a .received .now) (a .initiator) (a .purpose) (a .line .now) (a .passed .now)
+    search-refused (a .shape .now) (a .sent .now) (a .received .now) (a .initiator) (a .purpose) (a .set .now) (a .newer .now)
     (a .rounds .now) (a .messages .now)
     (at-two-question .two-question .ensures) (at-if1 .if1 .left) (at-shape-in .shape-in .ensures) (at-number .number .ensures)
     (at-number-of .number-of .ensures) (at-search .search .ensures .0) (c .if2 .taken)
@@ -82,7 +82,7 @@ returns-3 c =
     let at-if1 = at-shape-in .before in
     let at-two-question = at-if1 .before in
     let a = at-two-question .before .before .before .before .before .args in
-    search-ended (a .shape .now) (a .sent .now) (a .received .now) (a .initiator) (a .purpose) (a .line .now) (a .passed .now)
+    search-ended (a .shape .now) (a .sent .now) (a .received .now) (a .initiator) (a .purpose) (a .set .now) (a .newer .now)
     (a .rounds .now) (a .messages .now)
     (at-two-question .two-question .ensures) (at-if1 .if1 .left) (at-shape-in .shape-in .ensures) (at-number .number .ensures)
     (at-number-of .number-of .ensures) (at-search .search .ensures .0) (at-if2 .if2 .left)

@@ -6,14 +6,14 @@ use borrow.Author.Needs.{needs}
 use Rattle.participant.specs.Calls.{noParticipant}
 use Rattle.words.specs.Words.{word}
 use Rattle.words.specs.Session.{placeStart, placesAt}
-use Rattle.words.specs.Participant.{participantAt}
+use Rattle.words.specs.Participant.{participantFrom}
 use Rattle.words.proofs.Filling.{Filled, filled-none, filled-more, filled-all}
 use Rattle.state_words.proofs.sessions.places_at.Statement.{statement}
 use Rattle.state_words.proofs.sessions.places_at.Tie as tie
 
 abbrev Inv-loop : tie.InvT-loop
 Inv-loop words places₀ k₀ places k =
-    Filled noParticipant 16 (λ j. participantAt (word words (placeStart j)) words (placeStart j)) places k
+    Filled noParticipant 16 (λ j. participantFrom (word words (placeStart j)) words (placeStart j)) places k
 
 abbrev μ-loop : tie.MeasureT-loop
 μ-loop words places₀ k₀ places k = 16 - k

@@ -6,10 +6,10 @@ use borrow.Author.Needs.{needs}
 use Rattle.machine.specs.Own.{ownOf}
 use Rattle.machine.specs.Named.{countLimit}
 use Rattle.initiator.specs.declared.Initiator.{Initiator}
-use Rattle.initiator.specs.Begin.{idle}
+use Rattle.initiator.specs.Begin.{withoutWait}
 use Rattle.initiator.proofs.Steps.{search-is}
-use Rattle.initiator.proofs.search.Statement.{statement}
-use Rattle.initiator.proofs.search.Tie as tie
+use Rattle.initiator.proofs.begin_search.Statement.{statement}
+use Rattle.initiator.proofs.begin_search.Tie as tie
 
 sub-place : tie.Need-sub-place
 sub-place c = search needs
@@ -38,12 +38,12 @@ participants-requires c κs = search needs
 invitations-requires : tie.Need-invitations-requires
 invitations-requires c κs = search needs
 
-idle-requires : tie.Need-idle-requires
-idle-requires c κs = search needs
+without-wait-requires : tie.Need-without-wait-requires
+without-wait-requires c κs = search needs
 
 wait-if-requires : tie.Need-wait-if-requires
-unfolding idle
-wait-if-requires c κs = subst (λ (t : Initiator). t .rounds < countLimit) (sym (c .idle .ensures)) (omega arith)
+unfolding withoutWait
+wait-if-requires c κs = subst (λ (t : Initiator). t .rounds < countLimit) (sym (c .without-wait .ensures)) (omega arith)
 
 returns : tie.Need-returns
 returns c =
@@ -53,7 +53,7 @@ returns c =
     let first = c .before .before .before .before .with-row in
     let to = c .before .before .before .participants in
     let news = c .before .before .invitations in
-    let start = c .before .idle in
+    let start = c .before .without-wait in
     search-is (ownOf (a .rows .shape) (a .sent .now) (a .received .now) (a .me .0 - 1)) (a .me) (a .purpose) (row .result) (unknown .result)
     (first .result)
     (to .result)
@@ -68,8 +68,8 @@ returns c =
     (start .ensures)
     (c .wait-if .ensures)
 
-pub search-spec : {M : Type 1} → statement M
-search-spec =
+pub begin-search-spec : {M : Type 1} → statement M
+begin-search-spec =
     tie.close
     (tie.spec
     sub-place
@@ -80,6 +80,6 @@ search-spec =
     with-row-requires
     participants-requires
     invitations-requires
-    idle-requires
+    without-wait-requires
     wait-if-requires
     returns)
