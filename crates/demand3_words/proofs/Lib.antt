@@ -1,0 +1,11 @@
+pub mod Counters
+pub mod Machines
+pub mod Passed
+pub mod Kept
+pub mod Read
+pub mod Handed
+pub mod Reports
+pub mod Given
+pub mod Accepting
+pub mod Claims
+pub mod Theorems

@@ -1,0 +1,5 @@
+pub mod Read
+pub mod Turns
+pub mod Statement
+pub mod Beside
+pub mod Kept
