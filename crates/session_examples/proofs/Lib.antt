@@ -1,4 +1,4 @@
 pub mod Computing
 pub mod Once
 pub mod Sessions
-pub mod Room
+pub mod Real

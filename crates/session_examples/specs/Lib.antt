@@ -1,3 +1,3 @@
 pub mod Books
 pub mod Outcome
-pub mod Room
+pub mod Real

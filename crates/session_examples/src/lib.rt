@@ -1,1 +1,1 @@
-// Sessions of document 01's examples, and two facts about single books beside demand 3: no code.
+// Sessions of document 01's examples, and a real book that demand 3 speaks of: no code.

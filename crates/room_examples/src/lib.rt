@@ -1,0 +1,1 @@
+// The room that demand 3 asks for is needed, for every number of processes: no code.
