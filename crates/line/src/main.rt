@@ -1,5 +1,5 @@
 // Document 01, "Program `line`": reads a book from standard input and prints its line, or the question that it fails. What is
-// printed is the library's text; this program only reads and writes.
+// printed is the library's text; this program only reads and writes, and says on standard error where it could not.
 use book::WriteAnswer;
 use libc::STDERR_FILENO;
 use libc::STDIN_FILENO;
@@ -34,5 +34,7 @@ fn main() {
     let WriteAnswer::Length(length) = line_text::line_text(&input[..n], &mut text) else {
         return;
     };
-    io::write_all(STDOUT_FILENO, &text[..length]);
+    if !io::write_all(STDOUT_FILENO, &text[..length]) {
+        io::write_all(STDERR_FILENO, b"line: standard output cannot be written\n");
+    }
 }
