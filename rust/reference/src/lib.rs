@@ -10,6 +10,7 @@
 
 mod book;
 mod initiator;
+mod layout;
 mod line;
 mod machine;
 mod message;

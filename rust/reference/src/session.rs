@@ -98,19 +98,22 @@ impl Session {
         self.initiator as usize - 1
     }
 
-    /// Questions 10 and 11 of a turn: all of 10 before 11.
+    /// The machines at places that are not empty, wherever they are. An empty place is all zero, and
+    /// names nobody.
+    fn present(&self) -> impl Iterator<Item = &Participant> {
+        self.participants
+            .iter()
+            .filter(|&state| *state != Participant::default())
+    }
+
+    /// Questions 10 and 11 of a turn, of every name in the session: all of 10 before 11.
     pub(crate) fn name_questions(&self, n: usize, p: u64) -> Result<(), u32> {
         participant_question(n, p, self.initiator)?;
         process_question(n, self.machine.me)?;
-        for place in others(n, self.hub()) {
-            self.participants[place].process_questions(n)?;
-        }
+        self.present().try_for_each(|state| state.process_questions(n))?;
         purpose_question(self.purpose)?;
         purpose_question(self.machine.purpose)?;
-        for place in others(n, self.hub()) {
-            purpose_question(self.participants[place].purpose)?;
-        }
-        Ok(())
+        self.present().try_for_each(|state| purpose_question(state.purpose))
     }
 
     /// Question 13 of a session whose names have passed 10 and 11.

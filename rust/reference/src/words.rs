@@ -3,22 +3,15 @@
 //! Each answers 0 if it accepts, and else the number of the first question that fails; it writes
 //! only if it accepts. A slice of words of the wrong length is refused first of all.
 
-use crate::book::{self, Book, Shape, PROCESSES};
-use crate::initiator::{self, Initiator, Matrix};
-use crate::line;
+use crate::book::{self, Book};
+use crate::layout::{shape_of, Decoder, Encoder};
 use crate::machine::{process_question, purpose_question};
-use crate::participant::{self, Participant, ENDED};
-use crate::restart::{self, Order};
-use crate::session::{self, Session};
+use crate::{initiator, line, participant, restart, session};
 
-pub const SHAPE_WORDS: usize = 1 + PROCESSES;
-pub const SET_WORDS: usize = PROCESSES;
-pub const PAIR_WORDS: usize = 2;
-pub const LENGTHS_WORDS: usize = PROCESSES;
-pub const ORDER_WORDS: usize = 3 * PROCESSES;
-pub const PARTICIPANT_WORDS: usize = 6 + 2 * PROCESSES;
-pub const INITIATOR_WORDS: usize = 6 + PROCESSES + 2 * PROCESSES * PROCESSES;
-pub const SESSION_WORDS: usize = 3 + INITIATOR_WORDS + PROCESSES * PARTICIPANT_WORDS + PROCESSES + 1;
+pub use crate::layout::{
+    initiator_words, participant_words, session_words, INITIATOR_WORDS, LENGTHS_WORDS, ORDER_WORDS, PAIR_WORDS,
+    PARTICIPANT_WORDS, SESSION_WORDS, SET_WORDS, SHAPE_WORDS,
+};
 
 /// The answer to a slice of words of the wrong length.
 pub const WRONG_LENGTH: u32 = 100;
@@ -34,189 +27,6 @@ fn length_question(words: &[u64], length: usize) -> Result<(), u32> {
 /// The number that a call answers.
 fn answer(call: impl FnOnce() -> Result<(), u32>) -> u32 {
     call().err().unwrap_or(0)
-}
-
-/// Reads a value's words one after another. What does not decode is noted and read as zero, since
-/// the names beside it are asked first (questions 10 and 11, then 13).
-struct Decoder<'a> {
-    words: std::slice::Iter<'a, u64>,
-    decodes: bool,
-}
-
-impl<'a> Decoder<'a> {
-    fn new(words: &'a [u64]) -> Self {
-        Decoder {
-            words: words.iter(),
-            decodes: true,
-        }
-    }
-
-    fn wide(&mut self) -> u64 {
-        *self.words.next().expect("the length was asked first")
-    }
-
-    fn up_to(&mut self, largest: u32) -> u32 {
-        let word = self.wide();
-        if word <= u64::from(largest) {
-            word as u32
-        } else {
-            self.decodes = false;
-            0
-        }
-    }
-
-    fn narrow(&mut self) -> u32 {
-        self.up_to(u32::MAX)
-    }
-
-    fn flag(&mut self) -> bool {
-        self.up_to(1) == 1
-    }
-
-    /// Question 13 of what was read so far: does it decode?
-    fn question(&self) -> Result<(), u32> {
-        if self.decodes {
-            Ok(())
-        } else {
-            Err(13)
-        }
-    }
-
-    fn shape(&mut self) -> Shape {
-        Shape {
-            n: self.wide(),
-            counts: std::array::from_fn(|_| self.wide()),
-        }
-    }
-
-    fn participant(&mut self) -> Participant {
-        Participant {
-            n: self.wide(),
-            me: self.wide(),
-            initiator: self.wide(),
-            purpose: self.wide(),
-            stage: self.up_to(ENDED),
-            candidate: self.wide(),
-            row: std::array::from_fn(|_| self.narrow()),
-            column: std::array::from_fn(|_| self.narrow()),
-        }
-    }
-
-    fn matrix(&mut self) -> Matrix {
-        std::array::from_fn(|_| self.narrow())
-    }
-
-    fn initiator(&mut self) -> Initiator {
-        Initiator {
-            n: self.wide(),
-            me: self.wide(),
-            purpose: self.wide(),
-            ended: self.flag(),
-            candidate: self.wide(),
-            rounds: self.narrow(),
-            awaited: std::array::from_fn(|_| self.flag()),
-            matrix: self.matrix(),
-            copy: self.matrix(),
-        }
-    }
-
-    fn session(&mut self) -> Session {
-        Session {
-            n: self.wide(),
-            initiator: self.wide(),
-            purpose: self.wide(),
-            machine: self.initiator(),
-            participants: std::array::from_fn(|_| self.participant()),
-            lengths: std::array::from_fn(|_| self.wide()),
-            delivered: self.narrow(),
-        }
-    }
-}
-
-fn shape_of(words: &[u64]) -> Shape {
-    Decoder::new(words).shape()
-}
-
-/// Writes a value's words one after another.
-struct Encoder<'a> {
-    words: std::slice::IterMut<'a, u64>,
-}
-
-impl<'a> Encoder<'a> {
-    fn new(words: &'a mut [u64]) -> Self {
-        Encoder {
-            words: words.iter_mut(),
-        }
-    }
-
-    fn word(&mut self, word: u64) {
-        *self.words.next().expect("the length was asked first") = word;
-    }
-
-    fn all<T: Copy + Into<u64>>(&mut self, words: &[T]) {
-        words.iter().for_each(|&word| self.word(word.into()));
-    }
-
-    fn shape(&mut self, shape: &Shape) {
-        self.word(shape.n);
-        self.all(&shape.counts);
-    }
-
-    fn order(&mut self, order: &Order) {
-        self.all(&order.from);
-        self.all(&order.before);
-        self.all(&order.after);
-    }
-
-    fn participant(&mut self, state: &Participant) {
-        self.all(&[state.n, state.me, state.initiator, state.purpose]);
-        self.all(&[u64::from(state.stage), state.candidate]);
-        self.all(&state.row);
-        self.all(&state.column);
-    }
-
-    fn initiator(&mut self, state: &Initiator) {
-        self.all(&[
-            state.n,
-            state.me,
-            state.purpose,
-            u64::from(state.ended),
-            state.candidate,
-        ]);
-        self.word(u64::from(state.rounds));
-        self.all(&state.awaited);
-        self.all(&state.matrix);
-        self.all(&state.copy);
-    }
-
-    fn session(&mut self, session: &Session) {
-        self.all(&[session.n, session.initiator, session.purpose]);
-        self.initiator(&session.machine);
-        session.participants.iter().for_each(|state| self.participant(state));
-        self.all(&session.lengths);
-        self.word(u64::from(session.delivered));
-    }
-}
-
-/// A participant's state in words.
-pub fn participant_words(state: &Participant) -> [u64; PARTICIPANT_WORDS] {
-    let mut words = [0; PARTICIPANT_WORDS];
-    Encoder::new(&mut words).participant(state);
-    words
-}
-
-/// An initiator's state in words.
-pub fn initiator_words(state: &Initiator) -> [u64; INITIATOR_WORDS] {
-    let mut words = [0; INITIATOR_WORDS];
-    Encoder::new(&mut words).initiator(state);
-    words
-}
-
-/// A session in words.
-pub fn session_words(session: &Session) -> [u64; SESSION_WORDS] {
-    let mut words = [0; SESSION_WORDS];
-    Encoder::new(&mut words).session(session);
-    words
 }
 
 /// `recovery_line_read`

@@ -140,8 +140,9 @@ fn a_session_fits() {
 fn unused_places_of_a_session_are_zero() {
     for place in [0, 2, 15] {
         assert_eq!(turn_after(|session| session.lengths[place] = 1), 13);
-        assert_eq!(turn_after(|session| session.participants[place].candidate = 1), 13);
         assert_eq!(turn_after(|session| session.machine.awaited[place] = true), 13);
+        let copied = |session: &mut Session| session.participants[place] = session.participants[1].clone();
+        assert_eq!(turn_after(copied), 13);
     }
 }
 
