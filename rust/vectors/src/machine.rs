@@ -99,7 +99,7 @@ impl Role {
         if length <= index {
             return None;
         }
-        state[at + index] = edit.counter()?.into();
+        state[at + index] = edit.value;
         Some(())
     }
 

@@ -1,4 +1,5 @@
-//! Edits that a line says of a session: of a machine's field, of the session's own, of a strand, of what is lent.
+//! Edits that a line says of a session: of a machine's field, of the session's own, of a strand, of what is lent (`book=HEX`:
+//! the tables of another book).
 
 use crate::edits::Edit;
 use crate::session::{self, Place};
@@ -20,6 +21,10 @@ fn make_edit(field: &str, trial: &mut Trial, counters: &mut Counters) -> Option<
     }
     if field.starts_with(|c: char| c.is_ascii_digit()) {
         return edit_machine(field, trial, false);
+    }
+    if let Some(book) = field.strip_prefix("book=") {
+        trial.given.shape = counters.read_field(book);
+        return Some(());
     }
     match field.split_once(' ') {
         None => edit_own(field, trial, counters),
@@ -49,8 +54,7 @@ fn edit_machine(field: &str, trial: &mut Trial, among_participants: bool) -> Opt
 /// `NAME=V`: a field of the session, or what is lent.
 fn edit_own(field: &str, trial: &mut Trial, counters: &mut Counters) -> Option<()> {
     let edit = Edit::of(field)?;
-    let value = edit.counter()?;
-    match trial.session.set_own(edit.name, value.into()) {
+    match trial.session.set_own(edit.name, edit.value) {
         Some(()) => Some(()),
         None => trial.given.edit(&edit, counters),
     }
