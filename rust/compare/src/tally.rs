@@ -12,6 +12,9 @@ pub enum Kind {
     TableLengths,
     WordLengths,
     OtherTables,
+    OtherProcesses,
+    SessionHead,
+    Places,
     Set,
     Name,
     Room,
@@ -26,7 +29,7 @@ pub enum Kind {
 }
 
 /// All kinds, with what the table calls them.
-const KINDS: [(Kind, &str); 18] = [
+const KINDS: [(Kind, &str); 21] = [
     (Kind::ValidBook, "valid books read"),
     (Kind::DamagedBook, "damaged books read"),
     (Kind::ValidTables, "valid tables"),
@@ -34,6 +37,9 @@ const KINDS: [(Kind, &str); 18] = [
     (Kind::TableLengths, "tables of wrong length"),
     (Kind::WordLengths, "words of wrong length"),
     (Kind::OtherTables, "states on other tables"),
+    (Kind::OtherProcesses, "sessions on tables of another n"),
+    (Kind::SessionHead, "sessions with another n or initiator"),
+    (Kind::Places, "machines at unused places, places emptied"),
     (Kind::Set, "sets"),
     (Kind::Name, "names and purposes"),
     (Kind::Room, "buffers of other length"),
@@ -47,11 +53,14 @@ const KINDS: [(Kind, &str); 18] = [
     (Kind::ForgedSession, "forged sessions"),
 ];
 
+/// The kinds about names in a session, and the questions that each must meet: which names are asked, and what is left to 13.
+const OF_NAMES: [Kind; 3] = [Kind::OtherProcesses, Kind::SessionHead, Kind::Places];
+const QUESTIONS_OF_NAMES: [u32; 3] = [10, 11, 13];
+
 /// The counts.
 #[derive(Clone, Default)]
 pub struct Tally {
-    /// Cases, and accepted ones.
-    kinds: [[u64; 2]; KINDS.len()],
+    kinds: [[u64; ANSWERS.len()]; KINDS.len()],
     answers: [[u64; ANSWERS.len()]; CALLS.len()],
     pub cases: u64,
 }
@@ -59,16 +68,8 @@ pub struct Tally {
 impl Tally {
     /// Counts a case.
     pub fn add(&mut self, kind: Kind, call: Call, answer: u32) {
-        let kind = KINDS
-            .iter()
-            .position(|entry| entry.0 == kind)
-            .expect("every kind is listed");
-        let column = ANSWERS
-            .iter()
-            .position(|&listed| listed == answer)
-            .expect("compared with a listed answer");
-        self.kinds[kind][0] += 1;
-        self.kinds[kind][1] += u64::from(answer == 0);
+        let column = column(answer);
+        self.kinds[place(kind)][column] += 1;
         self.answers[call as usize][column] += 1;
         self.cases += 1;
     }
@@ -86,9 +87,18 @@ impl Tally {
         self.cases += other.cases;
     }
 
-    /// Each answer that a call can give and that no case had.
+    /// Each answer that a call can give, or a kind must meet, and that no case had.
     pub fn missing(&self) -> Vec<String> {
         let mut missing = Vec::new();
+        for kind in OF_NAMES {
+            let never = |question: &&u32| self.kinds[place(kind)][column(**question)] == 0;
+            missing.extend(
+                QUESTIONS_OF_NAMES
+                    .iter()
+                    .filter(never)
+                    .map(|question| format!("{kind:?} {question}")),
+            );
+        }
         for call in CALLS {
             for (column, &answer) in ANSWERS.iter().enumerate() {
                 if call.can_answer(answer) && self.answers[call as usize][column] == 0 {
@@ -101,11 +111,7 @@ impl Tally {
 
     /// Prints the counts by kind, then those by call and answer; `-` where a call never gives an answer.
     pub fn print(&self) {
-        println!("{:>10}{:>10}", "cases", "accepted");
-        for (place, (_, name)) in KINDS.iter().enumerate() {
-            let [cases, accepted] = self.kinds[place];
-            println!("{cases:>10}{accepted:>10}  {name}");
-        }
+        self.print_kinds();
         println!();
         print!("{:<20}", "answers");
         ANSWERS
@@ -126,6 +132,36 @@ impl Tally {
             println!();
         }
     }
+
+    /// How many cases each kind had, how many were accepted, and how many the questions of names refused.
+    fn print_kinds(&self) {
+        print!("{:>10}{:>10}", "cases", "accepted");
+        QUESTIONS_OF_NAMES.iter().for_each(|question| print!("{question:>7}"));
+        println!();
+        for (counts, (_, name)) in self.kinds.iter().zip(&KINDS) {
+            print!("{:>10}{:>10}", counts.iter().sum::<u64>(), counts[column(0)]);
+            QUESTIONS_OF_NAMES
+                .iter()
+                .for_each(|&question| print!("{:>7}", counts[column(question)]));
+            println!("  {name}");
+        }
+    }
+}
+
+/// Where a kind stands in the list.
+fn place(kind: Kind) -> usize {
+    KINDS
+        .iter()
+        .position(|entry| entry.0 == kind)
+        .expect("every kind is listed")
+}
+
+/// Where an answer stands in the list.
+fn column(answer: u32) -> usize {
+    ANSWERS
+        .iter()
+        .position(|&listed| listed == answer)
+        .expect("compared with a listed answer")
 }
 
 fn add_each(sums: &mut [u64], counts: &[u64]) {

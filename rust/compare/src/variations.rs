@@ -5,9 +5,11 @@ use crate::call::Call;
 use crate::changed_states::{change_initiator, change_participant, change_session, damage_strands};
 use crate::damaged_books::with_bytes_changed;
 use crate::damaged_tables::{change_entries, change_shape, change_table_lengths, change_word_lengths, ODD_NUMBERS};
-use crate::layout::{initiator, message_bytes, participant, session, slot_start, LARGEST, PROCESSES, TABLE_ENTRIES};
+use crate::layout::{initiator, message_bytes, participant, session, slot_start, PROCESSES};
 use crate::lent::{Guarded, Lent};
 use crate::messages;
+use crate::other_tables::{change_processes, change_tables_validly};
+use crate::places::{change_head, change_places};
 use crate::random::Random;
 use crate::tally::Kind;
 use crate::theirs;
@@ -46,10 +48,13 @@ const OF_MACHINES: [Kind; 5] = [
     Kind::Room,
 ];
 
-const OF_TURNS: [Kind; 9] = [
+const OF_TURNS: [Kind; 12] = [
     Kind::ChangedSession,
     Kind::ChangedSession,
     Kind::ChangedSession,
+    Kind::OtherProcesses,
+    Kind::SessionHead,
+    Kind::Places,
     Kind::DamagedStrand,
     Kind::DamagedStrand,
     Kind::OtherTables,
@@ -93,6 +98,9 @@ fn change(random: &mut Random, call: Call, kind: Kind, lent: &mut Lent) {
         Kind::TableLengths => change_table_lengths(random, lent),
         Kind::WordLengths => change_word_lengths(random, call, lent),
         Kind::OtherTables => change_tables_validly(random, lent),
+        Kind::OtherProcesses => change_processes(random, lent),
+        Kind::SessionHead => change_head(random, lent),
+        Kind::Places => change_places(random, lent.state.lent_mut()),
         Kind::Set => change_set(random, lent),
         Kind::Name => change_name(random, call, lent),
         Kind::Room => change_room(random, call, lent),
@@ -183,51 +191,4 @@ fn damage_message(random: &mut Random, lent: &mut Lent) {
     };
     let bytes = messages::damaged(random, n, lent.bytes.lent(), held);
     lent.bytes = Guarded::holding(&bytes);
-}
-
-/// Changes tables so that they stay valid: the state was made on others. Either a counter of newest checkpoints
-/// grows, or a newest checkpoint goes.
-fn change_tables_validly(random: &mut Random, lent: &mut Lent) {
-    let shape = lent.shape.lent();
-    let whole = shape.len() == PROCESSES + 1
-        && (1..=PROCESSES as u64).contains(&shape[0])
-        && shape[1..]
-            .iter()
-            .try_fold(0u64, |sum, &count| sum.checked_add(count))
-            .is_some_and(|sum| sum <= 256)
-        && lent.sent.lent().len() == TABLE_ENTRIES
-        && lent.received.lent().len() == TABLE_ENTRIES;
-    if !whole {
-        return;
-    }
-    let n = shape[0] as usize;
-    let j = random.between(1, n);
-    if shape[j] < 2 {
-        return;
-    }
-    let newest = shape[1..=j].iter().sum::<u64>() as usize - 1;
-    if random.once_in(2) {
-        drop_row(lent, newest);
-        lent.shape.lent_mut()[j] -= 1;
-        return;
-    }
-    let p = random.between(1, n);
-    let table = if random.once_in(2) {
-        &mut lent.sent
-    } else {
-        &mut lent.received
-    };
-    let entry = &mut table.lent_mut()[newest * PROCESSES + p - 1];
-    if p != j && u64::from(*entry) < LARGEST {
-        *entry += 1;
-    }
-}
-
-/// Takes a row out of both tables.
-fn drop_row(lent: &mut Lent, row: usize) {
-    for table in [&mut lent.sent, &mut lent.received] {
-        let table = table.lent_mut();
-        table.copy_within((row + 1) * PROCESSES.., row * PROCESSES);
-        table[TABLE_ENTRIES - PROCESSES..].fill(0);
-    }
 }
