@@ -28,8 +28,8 @@ pub(crate) struct Book<'a> {
     pub n: usize,
     pub counts: [usize; PROCESSES],
     first_rows: [usize; PROCESSES],
-    sent: &'a [u32],
-    received: &'a [u32],
+    sent: &'a [Row],
+    received: &'a [Row],
 }
 
 /// All processes of `n` but `own`, rising.
@@ -37,17 +37,21 @@ pub(crate) fn others(n: usize, own: usize) -> impl Iterator<Item = usize> {
     (0..n).filter(move |&process| process != own)
 }
 
-/// The row of sixteen entries at `index` of a table.
-fn row(table: &[u32], index: usize) -> &Row {
-    let start = PROCESSES * index;
-    table[start..start + PROCESSES]
-        .try_into()
-        .expect("a row has sixteen entries")
+/// The rows of a table.
+fn rows(table: &[u32]) -> &[Row] {
+    table.as_chunks().0
 }
 
-/// Whether every entry is zero (a fold without early exit, which is quick over large tables).
-fn all_zero(entries: &[u32]) -> bool {
+/// Whether every entry is zero (without an early exit, which is quick over large tables).
+pub(crate) fn all_zero(entries: &[u32]) -> bool {
     entries.iter().fold(0, |bits, entry| bits | entry) == 0
+}
+
+/// Whether each entry of a row is at most the other row's.
+pub(crate) fn at_most(row: &Row, other: &Row) -> bool {
+    row.iter()
+        .zip(other)
+        .fold(true, |all, (entry, bound)| all & (entry <= bound))
 }
 
 /// Question 2.
@@ -108,15 +112,38 @@ impl<'a> Book<'a> {
             n,
             counts,
             first_rows,
-            sent,
-            received,
+            sent: rows(sent),
+            received: rows(received),
         };
-        book.counter_questions()?;
-        if book.unused_is_zero(shape, sum) {
-            Ok(book)
-        } else {
-            Err(9)
+        let absent_counts_are_zero = shape.counts[n..].iter().all(|&count| count == 0);
+        if absent_counts_are_zero && book.is_sound(sum) {
+            return Ok(book);
         }
+        // Which question fails is asked one by one; if none of 6 to 8 does, it is 9.
+        book.counter_questions()?;
+        Err(9)
+    }
+
+    /// Whether 6 to 8 pass and "counts of absent processes, unused rows and columns, and a
+    /// process's own column are zero" (9), which a few sweeps over whole rows tell.
+    fn is_sound(&self, used_rows: usize) -> bool {
+        [self.sent, self.received].into_iter().all(|table| {
+            let used = (0..self.n).all(|own| self.rises_from_zero(own, &table[self.rows_of(own)]));
+            used && all_zero(table[used_rows..].as_flattened())
+        })
+    }
+
+    /// Whether the rows of one process begin with zeros and no column falls. The newest row then has
+    /// the highest counters: no mark, and zeros where nothing is used.
+    fn rises_from_zero(&self, own: usize, rows: &[Row]) -> bool {
+        let (oldest, newest) = (&rows[0], &rows[rows.len() - 1]);
+        let (earlier, later) = (rows.as_flattened(), rows[1..].as_flattened());
+        let falls = later
+            .iter()
+            .zip(earlier)
+            .fold(false, |any, (next, last)| any | (next < last));
+        let unused_is_zero = newest[own] == 0 && all_zero(&newest[self.n..]);
+        all_zero(oldest) && !falls && unused_is_zero && !newest.contains(&MARK)
     }
 
     /// Questions 6 to 8 "in book order": process by process, oldest checkpoint first, the sent
@@ -126,30 +153,14 @@ impl<'a> Book<'a> {
             for index in self.rows_of(own) {
                 let oldest = index == self.first_rows[own];
                 for table in [self.sent, self.received] {
-                    let counters = row(table, index);
-                    let before = if oldest { None } else { Some(row(table, index - 1)) };
                     for partner in others(self.n, own) {
-                        counter_question(counters[partner], before.map(|row| row[partner]))?;
+                        let before = if oldest { None } else { Some(table[index - 1][partner]) };
+                        counter_question(table[index][partner], before)?;
                     }
                 }
             }
         }
         Ok(())
-    }
-
-    /// Question 9: "counts of absent processes, unused rows and columns, and a process's own column
-    /// are zero".
-    fn unused_is_zero(&self, shape: &Shape, used_rows: usize) -> bool {
-        let absent_counts = shape.counts[self.n..].iter().all(|&count| count == 0);
-        let unused_columns = |own: usize, index: usize| {
-            [self.sent, self.received].iter().all(|table| {
-                let counters = row(table, index);
-                counters[own] == 0 && all_zero(&counters[self.n..])
-            })
-        };
-        let used = (0..self.n).all(|own| self.rows_of(own).all(|index| unused_columns(own, index)));
-        let unused_from = PROCESSES * used_rows;
-        absent_counts && used && all_zero(&self.sent[unused_from..]) && all_zero(&self.received[unused_from..])
     }
 
     /// The rows of one process's checkpoints, oldest first.
@@ -160,30 +171,36 @@ impl<'a> Book<'a> {
 
     /// What `process` had sent to each partner at its checkpoint of that number.
     pub fn sent(&self, process: usize, checkpoint: usize) -> &'a Row {
-        row(self.sent, self.first_rows[process] + checkpoint - 1)
+        &self.sent[self.first_rows[process] + checkpoint - 1]
     }
 
     /// What `process` had received from each partner at its checkpoint of that number.
     pub fn received(&self, process: usize, checkpoint: usize) -> &'a Row {
-        row(self.received, self.first_rows[process] + checkpoint - 1)
+        &self.received[self.first_rows[process] + checkpoint - 1]
     }
 
     /// Whether the sent counters in `known` permit the checkpoint: its "received counters are at
     /// most the known sent counters". The mark is above every counter, so "not known" permits
     /// everything; own and absent columns of accepted tables are zero, which everything permits.
-    pub fn permits(&self, process: usize, checkpoint: usize, known: &Row) -> bool {
-        let received = self.received(process, checkpoint);
-        received.iter().zip(known).all(|(received, known)| received <= known)
+    fn permits(&self, process: usize, checkpoint: usize, known: &Row) -> bool {
+        at_most(self.received(process, checkpoint), known)
     }
 
-    /// "A participant takes its newest checkpoint whose received counters are at most the known
-    /// sent counters." The oldest one received nothing, so there always is one.
-    pub fn newest_permitted(&self, process: usize, known: &Row) -> usize {
-        let mut checkpoint = self.counts[process];
+    /// The newest checkpoint up to `candidate` "whose received counters are at most the known sent
+    /// counters". The oldest one received nothing, so there always is one.
+    pub fn newest_permitted(&self, process: usize, candidate: usize, known: &Row) -> usize {
+        let mut checkpoint = candidate;
         while !self.permits(process, checkpoint, known) {
             checkpoint -= 1;
         }
         checkpoint
+    }
+
+    /// Whether the checkpoint is the newest permitted of all. Received counters never fall, so if
+    /// the next one is not permitted, no later one is.
+    pub fn is_newest_permitted(&self, process: usize, checkpoint: usize, known: &Row) -> bool {
+        let is_newest = checkpoint == self.counts[process];
+        self.permits(process, checkpoint, known) && (is_newest || !self.permits(process, checkpoint + 1, known))
     }
 
     /// Whether `process` (below n) has a checkpoint of that number.
@@ -191,15 +208,34 @@ impl<'a> Book<'a> {
         1 <= checkpoint && checkpoint <= self.counts[process] as u64
     }
 
-    /// All numbers of the book in the order of 01.
-    fn numbers(&self, mut take: impl FnMut(u32)) {
-        take(self.n as u32);
+    /// The number of bytes of the book: one for each number, and those of further groups, of which
+    /// unused entries have none.
+    fn size(&self) -> usize {
+        let further = |numbers: &[u32]| {
+            numbers
+                .iter()
+                .map(|&number| varint::further_groups(number))
+                .sum::<u32>()
+        };
+        let rows: usize = self.counts.iter().sum();
+        let numbers = 1 + self.n + rows * 2 * (self.n - 1);
+        let in_counts = further(&self.counts.map(|count| count as u32));
+        let in_tables = further(self.sent[..rows].as_flattened()) + further(self.received[..rows].as_flattened());
+        numbers + (in_counts + in_tables) as usize
+    }
+
+    /// Writes all numbers of the book in the order of 01, where they fit.
+    fn write(&self, out: &mut [u8]) {
+        let mut at = 0;
+        varint::write(self.n as u32, out, &mut at);
         for own in 0..self.n {
-            take(self.counts[own] as u32);
+            varint::write(self.counts[own] as u32, out, &mut at);
             for index in self.rows_of(own) {
-                for table in [self.sent, self.received] {
-                    let counters = row(table, index);
-                    others(self.n, own).for_each(|partner| take(counters[partner]));
+                for counters in [&self.sent[index], &self.received[index]] {
+                    let (before, after) = (&counters[..own], &counters[own + 1..self.n]);
+                    for &counter in before.iter().chain(after) {
+                        varint::write(counter, out, &mut at);
+                    }
                 }
             }
         }
@@ -218,30 +254,31 @@ pub fn read(bytes: &[u8], sent: &mut [u32], received: &mut [u32]) -> Result<Shap
     }
     table_lengths(sent, received)?;
     // "A refusal [...] changes nothing lent": the tables are filled aside first.
-    let mut read_sent = [0; ENTRIES];
-    let mut read_received = [0; ENTRIES];
+    let mut read_sent = [[0; PROCESSES]; CHECKPOINTS];
+    let mut read_received = [[0; PROCESSES]; CHECKPOINTS];
     let shape = read_along(bytes, &mut read_sent, &mut read_received)?;
-    sent.copy_from_slice(&read_sent);
-    received.copy_from_slice(&read_received);
+    sent.copy_from_slice(read_sent.as_flattened());
+    received.copy_from_slice(read_received.as_flattened());
     Ok(shape)
 }
 
 /// Questions 3 to 9 "along the book, number by number", filling tables of zeros.
-fn read_along(bytes: &[u8], sent: &mut [u32], received: &mut [u32]) -> Result<Shape, u32> {
+fn read_along(bytes: &[u8], sent: &mut [Row], received: &mut [Row]) -> Result<Shape, u32> {
     let mut at = 0;
     let n = process_count(u64::from(varint::read(bytes, &mut at).ok_or(3u32)?))?;
     let mut counts = [0; PROCESSES];
-    let mut index = 0;
-    for (own, count) in counts.iter_mut().enumerate().take(n) {
-        *count = u64::from(varint::read(bytes, &mut at).ok_or(3u32)?);
-        let first = index;
-        let end = first + checkpoint_count(*count, first)?;
-        while index < end {
+    let mut first = 0;
+    for own in 0..n {
+        counts[own] = u64::from(varint::read(bytes, &mut at).ok_or(3u32)?);
+        let end = first + checkpoint_count(counts[own], first)?;
+        for index in first..end {
             for table in [&mut *sent, &mut *received] {
-                read_row(bytes, &mut at, table, index, index == first, others(n, own))?;
+                let (earlier, later) = table.split_at_mut(index);
+                let before = if index == first { None } else { earlier.last() };
+                read_row(bytes, &mut at, &mut later[0], before, others(n, own))?;
             }
-            index += 1;
         }
+        first = end;
     }
     if at == bytes.len() {
         Ok(Shape { n: n as u64, counts })
@@ -254,17 +291,14 @@ fn read_along(bytes: &[u8], sent: &mut [u32], received: &mut [u32]) -> Result<Sh
 fn read_row(
     bytes: &[u8],
     at: &mut usize,
-    table: &mut [u32],
-    index: usize,
-    oldest: bool,
+    row: &mut Row,
+    before: Option<&Row>,
     partners: impl Iterator<Item = usize>,
 ) -> Result<(), u32> {
     for partner in partners {
-        let entry = PROCESSES * index + partner;
-        let before = if oldest { None } else { Some(table[entry - PROCESSES]) };
         let counter = varint::read(bytes, at).ok_or(3u32)?;
-        counter_question(counter, before)?;
-        table[entry] = counter;
+        counter_question(counter, before.map(|row| row[partner]))?;
+        row[partner] = counter;
     }
     Ok(())
 }
@@ -272,12 +306,10 @@ fn read_row(
 /// Writes the tables as a book and answers its length: questions 2, 4 to 9 and 17.
 pub fn write(shape: &Shape, sent: &[u32], received: &[u32], out: &mut [u8]) -> Result<usize, u32> {
     let book = Book::accepted(shape, sent, received)?;
-    let mut length = 0;
-    book.numbers(|number| length += varint::size(number));
+    let length = book.size();
     if length > out.len() {
         return Err(17);
     }
-    let mut at = 0;
-    book.numbers(|number| varint::write(number, out, &mut at));
+    book.write(out);
     Ok(length)
 }

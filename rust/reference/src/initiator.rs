@@ -1,12 +1,13 @@
 //! The initiator's machine (K 5.2).
 
-use crate::book::{others, Book, Row, Shape, MARK, PROCESSES};
+use crate::book::{all_zero, at_most, others, Book, Row, Shape, MARK, PROCESSES};
 use crate::machine::{not_known, process_question, purpose_question, unused_is_zero};
-use crate::message::{write_in_turn, Message, Outbox, Pairs, INVITATION, OTHER, RESTART_ONLY};
+use crate::message::{differing, take_in, write_in_turn, Message, Outbox};
+use crate::message::{INVITATION, NOTHING, NO_PAIRS, OTHER, RESTART_ONLY};
 
-/// For every ordered pair "the sender's candidate's sent counter or 'not known'": entry
-/// 16 * j + p is what process j sent to process p, both from 0.
-pub type Matrix = [u32; PROCESSES * PROCESSES];
+/// For every ordered pair "the sender's candidate's sent counter or 'not known'": row j is what
+/// process j sent to each, from 0.
+pub type Matrix = [[u32; PROCESSES]; PROCESSES];
 
 #[derive(Clone, PartialEq, Debug)]
 pub struct Initiator {
@@ -24,37 +25,20 @@ pub struct Initiator {
     pub copy: Matrix,
 }
 
-/// What process `sender` sent to each.
-fn row(matrix: &Matrix, sender: usize) -> &Row {
-    let start = PROCESSES * sender;
-    matrix[start..start + PROCESSES]
-        .try_into()
-        .expect("a row has sixteen entries")
-}
-
 /// What each sent to process `receiver`.
 fn column(matrix: &Matrix, receiver: usize) -> Row {
-    std::array::from_fn(|sender| matrix[PROCESSES * sender + receiver])
-}
-
-/// Writes the row of process `sender`.
-fn set_row(matrix: &mut Matrix, sender: usize, entries: &Row) {
-    let start = PROCESSES * sender;
-    matrix[start..start + PROCESSES].copy_from_slice(entries);
+    std::array::from_fn(|sender| matrix[sender][receiver])
 }
 
 /// Whether "diagonal and absent entries are zero".
 fn unused_entries_are_zero(matrix: &Matrix, n: usize) -> bool {
-    (0..n).all(|sender| unused_is_zero(row(matrix, sender), n, sender))
-        && matrix[PROCESSES * n..].iter().all(|&entry| entry == 0)
+    (0..n).all(|sender| unused_is_zero(&matrix[sender], n, sender)) && all_zero(matrix[n..].as_flattened())
 }
 
 /// The matrix of which nothing is known yet.
 fn unknown_matrix(n: usize) -> Matrix {
-    let mut matrix = [0; PROCESSES * PROCESSES];
-    for sender in 0..n {
-        set_row(&mut matrix, sender, &not_known(n, sender));
-    }
+    let mut matrix = [[0; PROCESSES]; PROCESSES];
+    (0..n).for_each(|sender| matrix[sender] = not_known(n, sender));
     matrix
 }
 
@@ -75,16 +59,17 @@ impl Initiator {
         };
         if purpose == RESTART_ONLY {
             // The sending of the invitations ends the initiator on checkpoint 1.
-            let invitations = state.to_everybody(INVITATION, |_| Pairs::NONE);
+            let invitations = state.to_everybody(INVITATION, |_| NO_PAIRS);
             return (state, invitations);
         }
-        state.take(book, book.counts[me]);
+        let own_row = book.sent(me, book.counts[me]);
+        state.candidate = book.counts[me] as u64;
+        state.matrix[me] = *own_row;
         state.copy = state.matrix;
         // "invites every other process with its own sent counter for it"
-        let own_row = book.sent(me, book.counts[me]);
         let invitations = state.to_everybody(INVITATION, |receiver| {
-            let mut pairs = Pairs::NONE;
-            pairs.push(me, own_row[receiver]);
+            let mut pairs = NO_PAIRS;
+            pairs[me] = own_row[receiver];
             pairs
         });
         if book.n > 1 {
@@ -99,22 +84,11 @@ impl Initiator {
         self.me as usize - 1
     }
 
-    /// Makes this checkpoint the candidate, and its sent counters the own row.
-    fn take(&mut self, book: &Book, candidate: usize) {
-        let own = self.own();
-        self.candidate = candidate as u64;
-        set_row(&mut self.matrix, own, book.sent(own, candidate));
-    }
-
     /// Begins a wait for those who get a message: copies the matrix and counts the round.
     fn wait_for(&mut self, sent: &Outbox) {
         self.copy = self.matrix;
         self.awaited = std::array::from_fn(|process| sent[process].is_some());
         self.rounds += 1;
-    }
-
-    fn awaits_someone(&self) -> bool {
-        self.awaited.contains(&true)
     }
 
     /// Question 13 of a state whose names have passed 10 and 11.
@@ -129,8 +103,8 @@ impl Initiator {
             // "Only participants are awaited", and "a waiting initiator awaits someone".
             && !awaited(own)
             && !(book.n..PROCESSES).any(awaited)
-            && (self.ended || self.awaits_someone())
-            && self.matrix.iter().zip(&self.copy).all(|(entry, copied)| entry <= copied)
+            && (self.ended || self.awaited.contains(&true))
+            && self.matrix.iter().zip(&self.copy).all(|(row, copied)| at_most(row, copied))
             && if self.ended && self.purpose == RESTART_ONLY {
                 self.knows_nothing(book.n)
             } else {
@@ -150,64 +124,87 @@ impl Initiator {
         let own = self.own();
         let candidate = self.candidate as usize;
         let permitting = if self.ended { &self.matrix } else { &self.copy };
-        row(&self.matrix, own) == book.sent(own, candidate)
-            && candidate == book.newest_permitted(own, &column(permitting, own))
+        self.matrix[own] == *book.sent(own, candidate)
+            && book.is_newest_permitted(own, candidate, &column(permitting, own))
     }
 
     /// What is left of 14, then 15 and 16, of a message that has been parsed.
     pub(crate) fn admits(&self, message: &Message) -> Result<(), u32> {
         let sender = message.sender as usize - 1;
-        let pairs = message.pairs.as_slice();
         // "No pair names the participant at whose end of the strand the message is [...] written":
         // here the sender, who is a participant unless the initiator names itself.
-        if sender != self.own() && message.pairs.names(sender) {
+        if sender != self.own() && message.names(sender) {
             return Err(14);
         }
-        let known = row(&self.matrix, sender);
+        let known = &self.matrix[sender];
         let n = self.n as usize;
         let first_report = *known == not_known(n, sender);
         if self.ended
             || !self.awaited[sender]
             || message.purpose != self.purpose
             || message.kind != OTHER
-            || (first_report && pairs.len() != n - 1)
+            || (first_report && message.count() != n - 1)
         {
             return Err(15);
         }
-        if pairs.iter().all(|&(process, counter)| counter < known[process]) {
+        if message.is_lower_than(known) {
             Ok(())
         } else {
             Err(16)
         }
     }
 
-    /// The step on a report that has passed 14 to 16: the state after it, and what is sent.
-    pub(crate) fn step(&self, book: &Book, report: &Message) -> (Initiator, Outbox) {
-        let mut next = self.clone();
+    /// The step on a report that has passed 14 to 16. `send` asks question 17 of the messages and
+    /// writes them; where it refuses, the state stays.
+    pub(crate) fn step<T>(
+        &mut self,
+        book: &Book,
+        report: &Message,
+        send: impl FnOnce(&Outbox) -> Result<T, u32>,
+    ) -> Result<T, u32> {
         let sender = report.sender as usize - 1;
-        for &(process, counter) in report.pairs.as_slice() {
-            next.matrix[PROCESSES * sender + process] = counter;
-        }
-        next.awaited[sender] = false;
-        if next.awaits_someone() {
-            return (next, [None; PROCESSES]);
-        }
-        // "When all awaited reports are in, it first steps back itself in the same way."
-        let own = self.own();
-        let candidate = book.newest_permitted(own, &column(&next.matrix, own));
-        next.take(book, candidate);
-        let polls = next.polls(book.n);
-        if polls.iter().any(Option::is_some) {
-            next.wait_for(&polls);
-            return (next, polls);
-        }
-        // "If none differs, it sends every participant a termination."
-        next.ended = true;
-        let terminations = next.to_everybody(OTHER, |_| Pairs::NONE);
-        (next, terminations)
+        let sent = if others(PROCESSES, sender).any(|process| self.awaited[process]) {
+            let sent = send(&NOTHING)?;
+            take_in(&mut self.matrix[sender], &report.pairs);
+            self.awaited[sender] = false;
+            sent
+        } else {
+            let mut matrix = self.matrix;
+            take_in(&mut matrix[sender], &report.pairs);
+            self.go_on(book, matrix, send)?
+        };
+        Ok(sent)
     }
 
-    fn message(&self, kind: u32, pairs: Pairs) -> Message {
+    /// "When all awaited reports are in, it first steps back itself in the same way. Then it polls
+    /// [...]. If none differs, it sends every participant a termination."
+    fn go_on<T>(
+        &mut self,
+        book: &Book,
+        mut matrix: Matrix,
+        send: impl FnOnce(&Outbox) -> Result<T, u32>,
+    ) -> Result<T, u32> {
+        let own = self.own();
+        let candidate = book.newest_permitted(own, self.candidate as usize, &column(&matrix, own));
+        matrix[own] = *book.sent(own, candidate);
+        let mut outbox = self.polls(&matrix);
+        let ends = outbox.iter().all(Option::is_none);
+        if ends {
+            outbox = self.to_everybody(OTHER, |_| NO_PAIRS);
+        }
+        let sent = send(&outbox)?;
+        self.candidate = candidate as u64;
+        self.matrix = matrix;
+        if ends {
+            self.awaited = [false; PROCESSES];
+            self.ended = true;
+        } else {
+            self.wait_for(&outbox);
+        }
+        Ok(sent)
+    }
+
+    fn message(&self, kind: u32, pairs: Row) -> Message {
         Message {
             kind,
             purpose: self.purpose,
@@ -217,8 +214,8 @@ impl Initiator {
     }
 
     /// A message of this kind for every participant, with the pairs for it.
-    fn to_everybody(&self, kind: u32, pairs_for: impl Fn(usize) -> Pairs) -> Outbox {
-        let mut outbox = [None; PROCESSES];
+    fn to_everybody(&self, kind: u32, pairs_for: impl Fn(usize) -> Row) -> Outbox {
+        let mut outbox = NOTHING;
         for receiver in others(self.n as usize, self.own()) {
             outbox[receiver] = Some(self.message(kind, pairs_for(receiver)));
         }
@@ -227,19 +224,15 @@ impl Initiator {
 
     /// "It polls each participant whose column differs from the copy, with the differing entries
     /// only."
-    fn polls(&self, n: usize) -> Outbox {
-        let mut outbox = [None; PROCESSES];
-        for receiver in others(n, self.own()) {
-            let mut pairs = Pairs::NONE;
-            for sender in 0..n {
-                let entry = PROCESSES * sender + receiver;
-                if self.matrix[entry] != self.copy[entry] {
-                    pairs.push(sender, self.matrix[entry]);
-                }
-            }
-            if !pairs.is_empty() {
-                outbox[receiver] = Some(self.message(OTHER, pairs));
-            }
+    fn polls(&self, matrix: &Matrix) -> Outbox {
+        let mut differs = [false; PROCESSES];
+        for (row, copied) in matrix.iter().zip(&self.copy) {
+            (0..PROCESSES).for_each(|receiver| differs[receiver] |= row[receiver] != copied[receiver]);
+        }
+        let mut outbox = NOTHING;
+        for receiver in others(self.n as usize, self.own()).filter(|&receiver| differs[receiver]) {
+            let pairs = differing(&column(matrix, receiver), &column(&self.copy, receiver));
+            outbox[receiver] = Some(self.message(OTHER, pairs));
         }
         outbox
     }
@@ -251,10 +244,7 @@ impl Initiator {
         }
         let message = Message::parse(message, book.n)?;
         self.admits(&message)?;
-        let (next, outbox) = self.step(book, &message);
-        let lengths = write_in_turn(&outbox, out)?;
-        *self = next;
-        Ok(lengths)
+        self.step(book, &message, |outbox| write_in_turn(outbox, out))
     }
 }
 

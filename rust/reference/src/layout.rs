@@ -82,7 +82,7 @@ impl<'a> Decoder<'a> {
     }
 
     fn matrix(&mut self) -> Matrix {
-        std::array::from_fn(|_| self.narrow())
+        std::array::from_fn(|_| std::array::from_fn(|_| self.narrow()))
     }
 
     pub fn initiator(&mut self) -> Initiator {
@@ -164,8 +164,8 @@ impl<'a> Encoder<'a> {
         ]);
         self.word(u64::from(state.rounds));
         self.all(&state.awaited);
-        self.all(&state.matrix);
-        self.all(&state.copy);
+        self.all(state.matrix.as_flattened());
+        self.all(state.copy.as_flattened());
     }
 
     pub fn session(&mut self, session: &Session) {

@@ -55,32 +55,67 @@ pub fn pairs_at_fault(
     Ok(faults(&book, &set).map(named).collect())
 }
 
-/// The line by K 2.2: from the newest checkpoints, each process that the others' sent counters do
-/// not permit steps back, until nobody does. No step passes a consistent set, so what is left is
-/// "the consistent set that is nowhere earlier than any other consistent set".
-pub(crate) fn line_of(book: &Book) -> [usize; PROCESSES] {
-    let mut set = book.counts;
-    let mut stepped_back = true;
-    while stepped_back {
-        stepped_back = false;
-        for j in 0..book.n {
-            let known = sent_to(book, &set, j);
-            while !book.permits(j, set[j], &known) {
-                set[j] -= 1;
-                stepped_back = true;
-            }
-        }
-    }
-    set
+/// A checkpoint of each process, with its rows; zeros for absent processes.
+struct Candidates<'a> {
+    book: &'a Book<'a>,
+    set: [usize; PROCESSES],
+    sent: [&'a Row; PROCESSES],
+    received: [&'a Row; PROCESSES],
 }
 
-/// What every process's checkpoint of the set had sent to `receiver`.
-fn sent_to(book: &Book, set: &[usize; PROCESSES], receiver: usize) -> Row {
-    let mut known = [0; PROCESSES];
-    for process in 0..book.n {
-        known[process] = book.sent(process, set[process])[receiver];
+impl<'a> Candidates<'a> {
+    /// Every process at its newest checkpoint.
+    fn newest(book: &'a Book) -> Self {
+        let mut newest = Candidates {
+            book,
+            set: book.counts,
+            sent: [&[0; PROCESSES]; PROCESSES],
+            received: [&[0; PROCESSES]; PROCESSES],
+        };
+        (0..book.n).for_each(|j| newest.take(j, book.counts[j]));
+        newest
     }
-    known
+
+    /// Process j takes this checkpoint.
+    fn take(&mut self, j: usize, checkpoint: usize) {
+        self.set[j] = checkpoint;
+        self.sent[j] = self.book.sent(j, checkpoint);
+        self.received[j] = self.book.received(j, checkpoint);
+    }
+
+    /// Whom j's checkpoint hurts: those who received more from j than it has sent, a bit for each.
+    fn hurt_by(&self, j: usize) -> u32 {
+        let sent = self.sent[j];
+        let mut bits = 0;
+        for (p, row) in self.received[..self.book.n].iter().enumerate() {
+            bits |= u32::from(row[j] > sent[p]) << p;
+        }
+        bits
+    }
+
+    /// Whether j received more from somebody than that one has sent.
+    fn is_hurt(&self, j: usize) -> bool {
+        let sent = self.sent[..self.book.n].iter();
+        sent.zip(self.received[j]).any(|(row, &received)| received > row[j])
+    }
+}
+
+/// The line by K 2.2: from the newest checkpoints, each process that is hurt steps back, until
+/// nobody is. No step passes a consistent set, so what is left is "the consistent set that is
+/// nowhere earlier than any other consistent set". A step is looked at twice, row by row: whom it
+/// hurts, and whether it was enough.
+pub(crate) fn line_of(book: &Book) -> [usize; PROCESSES] {
+    let mut candidates = Candidates::newest(book);
+    let mut hurt = (0..book.n).fold(0, |bits, j| bits | candidates.hurt_by(j));
+    while hurt != 0 {
+        let j = hurt.trailing_zeros() as usize;
+        candidates.take(j, candidates.set[j] - 1);
+        hurt |= candidates.hurt_by(j);
+        if !candidates.is_hurt(j) {
+            hurt &= !(1 << j);
+        }
+    }
+    candidates.set
 }
 
 /// "The number of checkpoints newer than the line's, summed."

@@ -1,7 +1,7 @@
 //! Messages: "kind, purpose, sender, count of pairs, then pairs (process, counter), rising by
 //! process".
 
-use crate::book::{MARK, PROCESSES};
+use crate::book::{Row, MARK, PROCESSES};
 use crate::varint;
 
 /// Kind 1.
@@ -12,36 +12,17 @@ pub(crate) const OTHER: u32 = 2;
 /// The purpose that only restarts; 1 (advance) and 3 (both) search.
 pub(crate) const RESTART_ONLY: u64 = 2;
 
-/// The pairs of a message: processes from 0, rising.
-#[derive(Clone, Copy)]
-pub(crate) struct Pairs {
-    count: usize,
-    list: [(usize, u32); PROCESSES],
+/// The bytes of a message's four leading numbers, and of one pair at its longest.
+const HEAD_BYTES: usize = 4;
+const PAIR_BYTES: usize = 6;
+
+/// The bytes of the longest message among n processes.
+pub(crate) const fn longest(n: usize) -> usize {
+    HEAD_BYTES + (n - 1) * PAIR_BYTES
 }
 
-impl Pairs {
-    pub const NONE: Pairs = Pairs {
-        count: 0,
-        list: [(0, 0); PROCESSES],
-    };
-
-    pub fn push(&mut self, process: usize, counter: u32) {
-        self.list[self.count] = (process, counter);
-        self.count += 1;
-    }
-
-    pub fn as_slice(&self) -> &[(usize, u32)] {
-        &self.list[..self.count]
-    }
-
-    pub fn is_empty(&self) -> bool {
-        self.count == 0
-    }
-
-    pub fn names(&self, process: usize) -> bool {
-        self.as_slice().iter().any(|&(named, _)| named == process)
-    }
-}
+/// No pair names anybody.
+pub(crate) const NO_PAIRS: Row = [MARK; PROCESSES];
 
 #[derive(Clone, Copy)]
 pub(crate) struct Message {
@@ -49,11 +30,31 @@ pub(crate) struct Message {
     pub purpose: u64,
     /// From 1, as it is written.
     pub sender: u64,
-    pub pairs: Pairs,
+    /// The counter of each process that a pair names; for the others the mark, which is "never a
+    /// counter in a book or message".
+    pub pairs: Row,
 }
 
 /// The messages of one step, by receiver.
 pub(crate) type Outbox = [Option<Message>; PROCESSES];
+
+/// Nothing is sent.
+pub(crate) const NOTHING: Outbox = [None; PROCESSES];
+
+/// The pairs that tell who holds a row of the entries that differ from it.
+pub(crate) fn differing(entries: &Row, held: &Row) -> Row {
+    std::array::from_fn(|process| match entries[process] {
+        entry if entry == held[process] => MARK,
+        entry => entry,
+    })
+}
+
+/// Takes pairs in that have passed question 16: each counter is lower than the entry held.
+pub(crate) fn take_in(held: &mut Row, pairs: &Row) {
+    for (entry, &counter) in held.iter_mut().zip(pairs) {
+        *entry = counter.min(*entry);
+    }
+}
 
 impl Message {
     /// Question 14, but for the pairs that no message at this end of the strand may have
@@ -74,7 +75,7 @@ impl Message {
         if !(1..=3).contains(&purpose) || !(1..=n as u64).contains(&sender) {
             return None;
         }
-        let mut pairs = Pairs::NONE;
+        let mut pairs = NO_PAIRS;
         let mut last = 0;
         for _ in 0..count {
             let process = varint::read(bytes, &mut at)? as usize;
@@ -82,7 +83,7 @@ impl Message {
             if process <= last || process > n || counter == MARK {
                 return None;
             }
-            pairs.push(process - 1, counter);
+            pairs[process - 1] = counter;
             last = process;
         }
         let message = Message {
@@ -98,35 +99,51 @@ impl Message {
     /// "purpose 2 only in an invitation".
     fn is_formed(&self) -> bool {
         match (self.kind, self.purpose) {
-            (INVITATION, RESTART_ONLY) => self.pairs.is_empty(),
-            (INVITATION, _) => self.pairs.count == 1 && self.pairs.names(self.sender as usize - 1),
+            (INVITATION, RESTART_ONLY) => self.has_no_pairs(),
+            (INVITATION, _) => self.count() == 1 && self.names(self.sender as usize - 1),
             (OTHER, purpose) => purpose != RESTART_ONLY,
             _ => false,
         }
     }
 
-    /// The numbers of the message, in order.
-    fn fields(&self) -> impl Iterator<Item = u32> + '_ {
-        let head = [
-            self.kind,
-            self.purpose as u32,
-            self.sender as u32,
-            self.pairs.count as u32,
-        ];
-        let pairs = self.pairs.as_slice().iter();
-        head.into_iter()
-            .chain(pairs.flat_map(|&(process, counter)| [process as u32 + 1, counter]))
+    /// Whether a pair names the process.
+    pub fn names(&self, process: usize) -> bool {
+        self.pairs[process] != MARK
     }
 
-    /// The number of bytes of the message when written.
+    /// The count of pairs.
+    pub fn count(&self) -> usize {
+        self.pairs.iter().filter(|&&counter| counter != MARK).count()
+    }
+
+    pub fn has_no_pairs(&self) -> bool {
+        self.pairs == NO_PAIRS
+    }
+
+    /// Question 16: "Is each counter lower than the entry now held?"
+    pub fn is_lower_than(&self, held: &Row) -> bool {
+        let pairs = self.pairs.iter().zip(held);
+        pairs.fold(true, |all, (&counter, &entry)| {
+            all & (counter == MARK || counter < entry)
+        })
+    }
+
+    /// The number of bytes of the message when written: its leading numbers and processes take one
+    /// each.
     pub fn size(&self) -> usize {
-        self.fields().map(varint::size).sum()
+        let counters = self.pairs.iter().filter(|&&counter| counter != MARK);
+        HEAD_BYTES + counters.map(|&counter| 1 + varint::size(counter)).sum::<usize>()
     }
 
     /// Writes the message at the start of `out`, where the caller has seen that it fits.
     pub fn write(&self, out: &mut [u8]) {
+        let head = [self.kind, self.purpose as u32, self.sender as u32, self.count() as u32];
         let mut at = 0;
-        self.fields().for_each(|field| varint::write(field, out, &mut at));
+        head.into_iter().for_each(|field| varint::write(field, out, &mut at));
+        for process in (0..PROCESSES).filter(|&process| self.names(process)) {
+            varint::write(process as u32 + 1, out, &mut at);
+            varint::write(self.pairs[process], out, &mut at);
+        }
     }
 }
 

@@ -1,8 +1,8 @@
 //! The participant's machine (K 5.3).
 
-use crate::book::{others, Book, Shape, PROCESSES};
+use crate::book::{Book, Row, Shape, PROCESSES};
 use crate::machine::{not_known, participant_question, purpose_question, unused_is_zero};
-use crate::message::{write_in_turn, Message, Outbox, Pairs, INVITATION, OTHER, RESTART_ONLY};
+use crate::message::{differing, take_in, write_in_turn, Message, INVITATION, NOTHING, OTHER, RESTART_ONLY};
 
 /// Stage of a participant that has not been invited yet.
 pub const BEFORE: u32 = 0;
@@ -21,9 +21,9 @@ pub struct Participant {
     pub stage: u32,
     pub candidate: u64,
     /// "The row it last reported": entry p is what its candidate had sent to p.
-    pub row: [u32; PROCESSES],
+    pub row: Row,
     /// What it knows of the others' candidates: entry j is what j's had sent to it.
-    pub column: [u32; PROCESSES],
+    pub column: Row,
 }
 
 impl Participant {
@@ -76,13 +76,13 @@ impl Participant {
     /// by the kept column."
     fn kept_fits(&self, book: &Book) -> bool {
         let candidate = self.candidate as usize;
-        self.row == *book.sent(self.own(), candidate) && candidate == book.newest_permitted(self.own(), &self.column)
+        self.row == *book.sent(self.own(), candidate) && book.is_newest_permitted(self.own(), candidate, &self.column)
     }
 
     /// What is left of 14, then 15 and 16, of a message that has been parsed.
     pub(crate) fn admits(&self, message: &Message) -> Result<(), u32> {
         // "No pair names the participant at whose end of the strand the message is read."
-        if message.pairs.names(self.own()) {
+        if message.names(self.own()) {
             return Err(14);
         }
         let awaited_kind = match self.stage {
@@ -93,47 +93,39 @@ impl Participant {
         if !awaited_kind || message.sender != self.initiator || message.purpose != self.purpose {
             return Err(15);
         }
-        let lower = |&(process, counter): &(usize, u32)| counter < self.column[process];
-        if message.pairs.as_slice().iter().all(lower) {
+        if message.is_lower_than(&self.column) {
             Ok(())
         } else {
             Err(16)
         }
     }
 
-    /// The step on a message that has passed 14 to 16: the state after it, and what is sent.
-    pub(crate) fn step(&self, book: &Book, message: &Message) -> (Participant, Outbox) {
+    /// The step on a message that has passed 14 to 16: the state after it, and its report.
+    pub(crate) fn step(&self, book: &Book, message: &Message) -> (Participant, Option<Message>) {
         let mut next = self.clone();
-        let mut outbox = [None; PROCESSES];
         if message.kind == INVITATION && message.purpose == RESTART_ONLY {
             // "With 2 the invitation itself ends each participant on checkpoint 1."
             next.stage = ENDED;
             next.candidate = 1;
-        } else if message.kind == OTHER && message.pairs.is_empty() {
+        } else if message.kind == OTHER && message.has_no_pairs() {
             // "Kind 2 from the initiator without pairs is the termination."
             next.stage = ENDED;
         } else {
-            for &(process, counter) in message.pairs.as_slice() {
-                next.column[process] = counter;
-            }
+            take_in(&mut next.column, &message.pairs);
             let report = next.take_newest_permitted(book);
-            outbox[self.initiator as usize - 1] = Some(report);
+            return (next, Some(report));
         }
-        (next, outbox)
+        (next, None)
     }
 
     /// Takes the "newest checkpoint whose received counters are at most the known sent counters",
-    /// and "reports each sent counter that differs from what it last reported".
+    /// and "reports each sent counter that differs from what it last reported". Known counters only
+    /// fall, so no checkpoint newer than the candidate is permitted.
     fn take_newest_permitted(&mut self, book: &Book) -> Message {
         let own = self.own();
-        let candidate = book.newest_permitted(own, &self.column);
+        let candidate = book.newest_permitted(own, self.candidate as usize, &self.column);
         let sent = book.sent(own, candidate);
-        let mut pairs = Pairs::NONE;
-        for process in others(book.n, own) {
-            if sent[process] != self.row[process] {
-                pairs.push(process, sent[process]);
-            }
-        }
+        let pairs = differing(sent, &self.row);
         self.stage = SEARCHING;
         self.candidate = candidate as u64;
         self.row = *sent;
@@ -152,7 +144,9 @@ impl Participant {
         }
         let message = Message::parse(message, book.n)?;
         self.admits(&message)?;
-        let (next, outbox) = self.step(book, &message);
+        let (next, report) = self.step(book, &message);
+        let mut outbox = NOTHING;
+        outbox[self.initiator as usize - 1] = report;
         let lengths = write_in_turn(&outbox, out)?;
         *self = next;
         Ok(lengths)

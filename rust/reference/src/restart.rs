@@ -1,6 +1,6 @@
 //! Restart orders and the move (K 5.4).
 
-use crate::book::{Book, Row, Shape, PROCESSES};
+use crate::book::{Book, Shape, PROCESSES};
 use crate::line::line_of;
 use crate::machine::purpose_question;
 use crate::message::RESTART_ONLY;
@@ -62,20 +62,20 @@ pub fn move_line(shape: &mut Shape, sent: &mut [u32], received: &mut [u32], purp
 /// checkpoint's counters" lowered "by those that its own process's line checkpoint held". No kept
 /// row is written before its place is read: rows only go.
 fn keep_only(shape: &Shape, order: &Order, table: &mut [u32]) {
+    let (rows, _) = table.as_chunks_mut::<PROCESSES>();
     let mut read_from = 0;
     let mut write_to = 0;
     for process in 0..shape.n as usize {
-        let end = read_from + PROCESSES * shape.counts[process] as usize;
-        let first_kept = read_from + PROCESSES * order.before[process] as usize;
-        let last_kept = end - PROCESSES * order.after[process] as usize;
-        let base: Row = table[first_kept..first_kept + PROCESSES]
-            .try_into()
-            .expect("a row has sixteen entries");
-        for entry in first_kept..last_kept {
-            table[write_to] = table[entry] - base[entry % PROCESSES];
+        let end = read_from + shape.counts[process] as usize;
+        let first_kept = read_from + order.before[process] as usize;
+        let last_kept = end - order.after[process] as usize;
+        let base = rows[first_kept];
+        for kept in first_kept..last_kept {
+            let row = rows[kept];
+            rows[write_to] = std::array::from_fn(|partner| row[partner] - base[partner]);
             write_to += 1;
         }
         read_from = end;
     }
-    table[write_to..].fill(0);
+    rows[write_to..].as_flattened_mut().fill(0);
 }

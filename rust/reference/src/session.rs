@@ -5,14 +5,11 @@ use crate::book::{others, Book, Shape, MARK, PROCESSES};
 use crate::initiator::Initiator;
 use crate::line::passed;
 use crate::machine::{participant_question, process_question, purpose_question};
-use crate::message::{lengths_of, Message, Outbox, INVITATION, OTHER, RESTART_ONLY};
+use crate::message::{lengths_of, longest, Message, Outbox, INVITATION, OTHER, RESTART_ONLY};
 use crate::participant::{Participant, ENDED};
 
-/// The bytes of a message's four leading numbers, and of one pair at its longest.
-const HEAD_BYTES: usize = 4;
-const PAIR_BYTES: usize = 6;
 /// Room for the strands of sixteen processes.
-const ALL_STRANDS: usize = (PROCESSES - 1) * (HEAD_BYTES + (PROCESSES - 1) * PAIR_BYTES);
+const ALL_STRANDS: usize = (PROCESSES - 1) * longest(PROCESSES);
 
 #[derive(Clone, PartialEq, Debug)]
 pub struct Session {
@@ -38,19 +35,15 @@ pub struct Searched {
     pub messages: u32,
 }
 
-/// A slot is as long as the longest message among n processes.
-fn slot_size(n: usize) -> usize {
-    HEAD_BYTES + (n - 1) * PAIR_BYTES
-}
-
-/// Where the slot of a participant starts; the participants' slots follow one another, rising.
+/// Where the slot of a participant starts: each is as long as the longest message, and the
+/// participants' slots follow one another, rising.
 fn slot_start(n: usize, initiator: usize, participant: usize) -> usize {
     let place = if participant < initiator {
         participant
     } else {
         participant - 1
     };
-    place * slot_size(n)
+    place * longest(n)
 }
 
 /// Question 17 of the messages that a call puts onto strands, each at its slot's start.
@@ -65,13 +58,29 @@ fn room_question(outbox: &Outbox, n: usize, initiator: usize, room: usize) -> Re
     Ok(lengths)
 }
 
-/// Puts the messages onto their strands, where they fit.
-fn put(outbox: &Outbox, n: usize, initiator: usize, strands: &mut [u8]) {
+/// Puts the messages onto their strands, where they fit, and answers their lengths: question 17.
+fn put(outbox: &Outbox, n: usize, initiator: usize, strands: &mut [u8]) -> Result<[u64; PROCESSES], u32> {
+    let lengths = room_question(outbox, n, initiator, strands.len())?;
     for (participant, message) in outbox.iter().enumerate() {
         if let Some(message) = message {
             message.write(&mut strands[slot_start(n, initiator, participant)..]);
         }
     }
+    Ok(lengths)
+}
+
+/// Puts what a participant sends to the initiator, if anything, onto its own strand, and answers
+/// its length: question 17.
+fn put_one(report: Option<Message>, start: usize, strands: &mut [u8]) -> Result<u64, u32> {
+    let Some(report) = report else {
+        return Ok(0);
+    };
+    let length = report.size();
+    if start + length > strands.len() {
+        return Err(17);
+    }
+    report.write(&mut strands[start..]);
+    Ok(length as u64)
 }
 
 impl Session {
@@ -158,7 +167,7 @@ impl Session {
             return false;
         };
         if message.sender == self.initiator {
-            let termination = message.kind == OTHER && message.pairs.is_empty();
+            let termination = message.kind == OTHER && message.has_no_pairs();
             let bare_restart = message.kind == INVITATION && message.purpose == RESTART_ONLY;
             let wants_report = !termination && !bare_restart;
             self.participants[place].admits(&message).is_ok()
@@ -174,7 +183,7 @@ impl Session {
     /// bytes lent.
     fn waiting<'a>(&self, n: usize, place: usize, strands: &'a [u8]) -> Option<&'a [u8]> {
         let length = self.lengths[place];
-        if length > slot_size(n) as u64 {
+        if length > longest(n) as u64 {
             return None;
         }
         let start = slot_start(n, self.hub(), place);
@@ -199,21 +208,16 @@ impl Session {
         let bytes = self.waiting(book.n, place, strands).ok_or(13u32)?;
         let message = Message::parse(bytes, book.n)?;
         if message.sender == self.initiator {
-            let (next, mut outbox) = self.participants[place].step(book, &message);
-            // What a participant sends to the initiator goes onto its own strand.
-            outbox.swap(place, hub);
-            let lengths = room_question(&outbox, book.n, hub, strands.len())?;
-            put(&outbox, book.n, hub, strands);
+            let (next, report) = self.participants[place].step(book, &message);
+            self.lengths[place] = put_one(report, slot_start(book.n, hub, place), strands)?;
             self.participants[place] = next;
-            self.lengths[place] = lengths[place];
         } else {
-            let (next, outbox) = self.machine.step(book, &message);
-            let lengths = room_question(&outbox, book.n, hub, strands.len())?;
-            put(&outbox, book.n, hub, strands);
-            self.machine = next;
+            let lengths = self
+                .machine
+                .step(book, &message, |outbox| put(outbox, book.n, hub, strands))?;
             self.lengths[place] = 0;
-            for receiver in (0..book.n).filter(|&process| outbox[process].is_some()) {
-                self.lengths[receiver] = lengths[receiver];
+            for (waiting, length) in self.lengths.iter_mut().zip(lengths).filter(|&(_, length)| length > 0) {
+                *waiting = length;
             }
         }
         self.delivered += 1;
@@ -246,8 +250,7 @@ pub fn session_start(
     purpose_question(purpose)?;
     let hub = initiator as usize - 1;
     let (session, invitations) = Session::begin(&book, hub, purpose);
-    room_question(&invitations, book.n, hub, strands.len())?;
-    put(&invitations, book.n, hub, strands);
+    put(&invitations, book.n, hub, strands)?;
     Ok(session)
 }
 
@@ -276,7 +279,7 @@ pub fn search(shape: &Shape, sent: &[u32], received: &[u32], initiator: u64, pur
     let hub = initiator as usize - 1;
     let mut strands = [0; ALL_STRANDS];
     let (mut session, invitations) = Session::begin(&book, hub, purpose);
-    put(&invitations, book.n, hub, &mut strands);
+    put(&invitations, book.n, hub, &mut strands)?;
     while let Some(lowest) = session.lengths.iter().position(|&length| length > 0) {
         // The session inside is as the start and its own turns left it: it needs no question.
         session.deliver(&book, lowest, &mut strands)?;

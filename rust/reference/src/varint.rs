@@ -19,15 +19,14 @@ pub(crate) fn read(bytes: &[u8], at: &mut usize) -> Option<u32> {
     None
 }
 
+/// How many groups of `value` follow the first when it is written.
+pub(crate) fn further_groups(value: u32) -> u32 {
+    u32::from(value >= 1 << 7) + u32::from(value >= 1 << 14) + u32::from(value >= 1 << 21) + u32::from(value >= 1 << 28)
+}
+
 /// The number of bytes of `value` when written.
 pub(crate) fn size(value: u32) -> usize {
-    match value {
-        0..=0x7f => 1,
-        0x80..=0x3fff => 2,
-        0x4000..=0x1f_ffff => 3,
-        0x20_0000..=0xfff_ffff => 4,
-        _ => 5,
-    }
+    1 + further_groups(value) as usize
 }
 
 /// Writes `value` at `at` and moves `at` behind it; the caller has seen that it fits.

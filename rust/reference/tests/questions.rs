@@ -126,11 +126,11 @@ fn a_session_fits() {
     assert_eq!(turn_after(|session| session.machine.rounds = MARK - 1), 0);
     assert_eq!(turn_after(|session| session.machine.rounds = MARK), 13);
     assert_eq!(
-        turn_after(|session| session.machine.copy[1] = 0),
+        turn_after(|session| session.machine.copy[0][1] = 0),
         13,
         "matrix above copy"
     );
-    assert_eq!(turn_after(|session| session.machine.copy[1] = 2), 0);
+    assert_eq!(turn_after(|session| session.machine.copy[0][1] = 2), 0);
     assert_eq!(turn_after(|session| session.participants[1].initiator = 2), 10);
     assert_eq!(turn_after(|session| session.participants[1].purpose = 3), 13);
     assert_eq!(turn_after(|session| session.participants[1].stage = 3), 13);
