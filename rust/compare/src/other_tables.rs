@@ -65,20 +65,18 @@ pub fn change_processes(random: &mut Random, lent: &mut Lent) {
         return;
     }
     let n = lent.shape.lent()[0] as usize;
+    let checkpoints: u64 = lent.shape.lent()[1..].iter().sum();
     match random.below(4) {
-        0 => drop_last_process(lent, n),
-        1 => add_process(lent, n),
+        0 if n > 1 => drop_last_process(lent, n),
+        1 if n < PROCESSES && checkpoints < CHECKPOINTS as u64 => add_process(lent, n),
         _ => lend_other_book(random, lent, n),
     }
     let now = lent.shape.lent()[0];
     change_count(random, lent.state.lent_mut(), now);
 }
 
-/// Takes the last process out of the tables, if there is another.
+/// Takes the last process out of the tables.
 fn drop_last_process(lent: &mut Lent, n: usize) {
-    if n < 2 {
-        return;
-    }
     let count = lent.shape.lent()[n] as usize;
     let first = lent.shape.lent()[1..n].iter().sum::<u64>() as usize;
     drop_rows(lent, first, count);
@@ -92,28 +90,26 @@ fn drop_last_process(lent: &mut Lent, n: usize) {
     shape[0] -= 1;
 }
 
-/// Puts one process more into the tables, with one checkpoint, if there is room.
+/// Puts one process more into the tables, with one checkpoint.
 fn add_process(lent: &mut Lent, n: usize) {
     let shape = lent.shape.lent_mut();
-    if n < PROCESSES && shape[1..].iter().sum::<u64>() < CHECKPOINTS as u64 {
-        shape[0] += 1;
-        shape[n + 1] = 1;
-    }
+    shape[0] += 1;
+    shape[n + 1] = 1;
 }
 
-/// Lends the tables of another book, mostly of another number of processes.
+/// Lends the tables of a book of another number of processes.
 fn lend_other_book(random: &mut Random, lent: &mut Lent, n: usize) {
-    for _ in 0..4 {
+    let book = loop {
         let book = if random.once_in(2) {
             small_book(random)
         } else {
             any_book(random)
         };
         if book.n() != n {
-            lent.shape = Guarded::holding(&book.shape);
-            lent.sent = Guarded::holding(&book.sent);
-            lent.received = Guarded::holding(&book.received);
-            return;
+            break book;
         }
-    }
+    };
+    lent.shape = Guarded::holding(&book.shape);
+    lent.sent = Guarded::holding(&book.sent);
+    lent.received = Guarded::holding(&book.received);
 }

@@ -268,9 +268,9 @@ fn read_along(bytes: &[u8], sent: &mut [Row], received: &mut [Row]) -> Result<Sh
     let n = process_count(u64::from(varint::read(bytes, &mut at).ok_or(3u32)?))?;
     let mut counts = [0; PROCESSES];
     let mut first = 0;
-    for own in 0..n {
-        counts[own] = u64::from(varint::read(bytes, &mut at).ok_or(3u32)?);
-        let end = first + checkpoint_count(counts[own], first)?;
+    for (own, count) in counts.iter_mut().enumerate().take(n) {
+        *count = u64::from(varint::read(bytes, &mut at).ok_or(3u32)?);
+        let end = first + checkpoint_count(*count, first)?;
         for index in first..end {
             for table in [&mut *sent, &mut *received] {
                 let (earlier, later) = table.split_at_mut(index);
