@@ -191,8 +191,18 @@ fn refused_turns_change_no_session() {
             .map_or_else(|refusal| refusal.question(), |()| 0);
         assert_eq!((answer, question == 18), (question, session == after));
     }
-    let other = Tables::read(&[2, 1, 0, 0, 1, 0, 0]).unwrap();
-    let after = session.clone();
-    assert_eq!(session.turn(&other, process(1)).unwrap_err().question(), 13);
-    assert_eq!(session, after);
+}
+
+/// A session of more processes names one that the tables do not have; one of fewer does not fit them.
+#[test]
+fn sessions_do_not_go_with_other_tables() {
+    let three = tables();
+    let two = Tables::read(&[2, 1, 0, 0, 1, 0, 0]).unwrap();
+    for (own, other, question) in [(&three, &two, 10), (&two, &three, 13)] {
+        let mut session = Session::start(own, process(1), Purpose::Advance).unwrap();
+        let before = session.clone();
+        assert_eq!(session.turn(other, process(2)).unwrap_err().question(), question);
+        assert_eq!(session, before);
+        assert_eq!(session.turn(own, process(2)), Ok(()));
+    }
 }
