@@ -58,7 +58,7 @@ extern "C" {
 #endif
 
 /* The version of this interface: it changes when a declaration, a layout or the meaning of a call does. */
-#define RECOVERY_LINE_VERSION 1
+#define RECOVERY_LINE_VERSION 2
 
 /* Bounds. */
 #define RECOVERY_LINE_PROCESSES 16
@@ -185,13 +185,14 @@ uint32_t recovery_line_session_turn(uint64_t *session, size_t session_len, const
                                     const uint32_t *sent, size_t sent_len, const uint32_t *received,
                                     size_t received_len, uint64_t p, uint8_t *strands, size_t strands_len);
 
-/* A search from its start to its end, lowest waiting strand first: where everybody has ended (the line; with purpose 2
- * checkpoint 1), how many checkpoints are newer, and the rounds and messages that it took.
+/* A search from its start to its end, lowest waiting strand first: the set on which everybody ended, how many checkpoints are
+ * newer than it, and the rounds and messages that it took. With purpose 1 or 3 `set` and `newer` are the line and T; with
+ * purpose 2 checkpoint 1 everywhere, and how many checkpoints are newer than those.
  * Questions: the tables', 10, 11.
  * Stack: 51200 bytes. */
 uint32_t recovery_line_search(const uint64_t *shape, size_t shape_len, const uint32_t *sent, size_t sent_len,
                               const uint32_t *received, size_t received_len, uint64_t initiator, uint64_t purpose,
-                              uint64_t *line, size_t line_len, uint64_t *passed, uint64_t *rounds, uint64_t *messages);
+                              uint64_t *set, size_t set_len, uint64_t *newer, uint64_t *rounds, uint64_t *messages);
 
 /* Moves the line in the tables, every entry of both, with their shape, and gives the restart order.
  * Questions: the tables', 11.

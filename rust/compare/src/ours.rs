@@ -113,14 +113,14 @@ unsafe fn on_machines(call: Call, a: &Arguments) -> u32 {
 
 unsafe fn on_sessions(call: Call, a: &Arguments) -> u32 {
     let [first, second, _] = a.names;
-    let [passed, rounds, messages] = a.numbers;
+    let [newer, rounds, messages] = a.numbers;
     match call {
         Call::SessionStart => {
             call!(recovery_line_session_start, a, [shape sent received], first, second; [state out])
         }
         Call::SessionTurn => call!(recovery_line_session_turn, a, [state shape sent received], first; [out]),
         _ => {
-            call!(recovery_line_search, a, [shape sent received], first, second; [result], passed, rounds, messages)
+            call!(recovery_line_search, a, [shape sent received], first, second; [result], newer, rounds, messages)
         }
     }
 }

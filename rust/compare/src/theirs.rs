@@ -53,11 +53,11 @@ fn on_machines(call: Call, lent: &mut Lent) -> u32 {
 fn on_sessions(call: Call, lent: &mut Lent) -> u32 {
     let (shape, sent, received) = (lent.shape.lent(), lent.sent.lent(), lent.received.lent());
     let (state, strands) = (lent.state.lent_mut(), lent.out.lent_mut());
-    let ([first, second, _], line) = (lent.names, lent.result.lent_mut());
-    let [passed, rounds, messages] = &mut lent.numbers;
+    let ([first, second, _], set) = (lent.names, lent.result.lent_mut());
+    let [newer, rounds, messages] = &mut lent.numbers;
     match call {
         Call::SessionStart => words::session_start(shape, sent, received, first, second, state, strands),
         Call::SessionTurn => words::session_turn(state, shape, sent, received, first, strands),
-        _ => words::search(shape, sent, received, first, second, line, passed, rounds, messages),
+        _ => words::search(shape, sent, received, first, second, set, newer, rounds, messages),
     }
 }

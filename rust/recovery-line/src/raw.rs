@@ -280,15 +280,16 @@ pub fn session_turn(
     })
 }
 
-/// Searches from start to end, lowest waiting strand first.
+/// Searches from start to end, lowest waiting strand first: the set on which everybody ended, and how many checkpoints are newer
+/// than it, which with purpose 1 or 3 is the line and T, with purpose 2 checkpoint 1 everywhere and how many are newer than those.
 pub fn search(
     shape: &[u64],
     sent: &[u32],
     received: &[u32],
     initiator: u64,
     purpose: u64,
-    line: &mut [u64],
-    passed: &mut u64,
+    set: &mut [u64],
+    newer: &mut u64,
     rounds: &mut u64,
     messages: &mut u64,
 ) -> Result<(), Refusal> {
@@ -303,9 +304,9 @@ pub fn search(
             received.len(),
             initiator,
             purpose,
-            line.as_mut_ptr(),
-            line.len(),
-            passed,
+            set.as_mut_ptr(),
+            set.len(),
+            newer,
             rounds,
             messages,
         )

@@ -70,10 +70,10 @@ pub struct Line {
 /// What a search came to.
 #[derive(Clone, Copy, Debug, PartialEq, Eq, Hash)]
 pub struct Search {
-    /// Where everybody has ended: the line, or checkpoint 1 after a bare restart.
+    /// The set on which everybody ended: the line with purpose 1 or 3, checkpoint 1 everywhere with purpose 2.
     pub set: Set,
-    /// How many checkpoints are newer than these.
-    pub passed: u64,
+    /// How many checkpoints are newer than it: T with purpose 1 or 3, with purpose 2 those newer than checkpoint 1.
+    pub newer: u64,
     /// How many waits of the initiator it took.
     pub rounds: u64,
     /// How many messages were delivered.

@@ -2,7 +2,7 @@
 //! The module [`raw`](crate::raw) has a safe function for each of these.
 
 /// The version of this interface.
-pub const RECOVERY_LINE_VERSION: u32 = 1;
+pub const RECOVERY_LINE_VERSION: u32 = 2;
 
 /// The most processes.
 pub const RECOVERY_LINE_PROCESSES: usize = 16;
@@ -221,7 +221,7 @@ extern "C" {
         strands_len: usize,
     ) -> u32;
 
-    /// A search from its start to its end.
+    /// A search from its start to its end: the set on which everybody ended, and how many checkpoints are newer than it.
     pub fn recovery_line_search(
         shape: *const u64,
         shape_len: usize,
@@ -231,9 +231,9 @@ extern "C" {
         received_len: usize,
         initiator: u64,
         purpose: u64,
-        line: *mut u64,
-        line_len: usize,
-        passed: *mut u64,
+        set: *mut u64,
+        set_len: usize,
+        newer: *mut u64,
         rounds: *mut u64,
         messages: *mut u64,
     ) -> u32;

@@ -101,7 +101,7 @@ impl Tables {
     /// Runs a search by messages from its start to its end, lowest waiting strand first.
     pub fn search(&self, initiator: Process, purpose: Purpose) -> Result<Search, Refusal> {
         let mut set = [0; RECOVERY_LINE_SET_WORDS];
-        let (mut passed, mut rounds, mut messages) = (0, 0, 0);
+        let (mut newer, mut rounds, mut messages) = (0, 0, 0);
         raw::search(
             &self.shape,
             &self.sent[..],
@@ -109,13 +109,13 @@ impl Tables {
             initiator.number(),
             purpose.number(),
             &mut set,
-            &mut passed,
+            &mut newer,
             &mut rounds,
             &mut messages,
         )?;
         Ok(Search {
             set: Set::from_array(set),
-            passed,
+            newer,
             rounds,
             messages,
         })

@@ -27,12 +27,12 @@ fn set(numbers: &[u64]) -> Set {
     Set::new(&checkpoints).unwrap()
 }
 
-/// The line, how many were passed, the rounds and the messages of a search with purpose 3.
+/// The line, T, the rounds and the messages of a search with purpose 3.
 fn searched(hex: &str, initiator: u64) -> (String, u64, u64, u64) {
     let search = tables(hex)
         .search(Process::new(initiator), Purpose::AdvanceAndRestart)
         .unwrap();
-    (search.set.to_string(), search.passed, search.rounds, search.messages)
+    (search.set.to_string(), search.newer, search.rounds, search.messages)
 }
 
 #[test]
@@ -94,7 +94,7 @@ fn a_bare_restart_keeps_the_oldest() {
     let mut tables = tables(EXAMPLE_6);
     let search = tables.search(Process::new(2), Purpose::Restart).unwrap();
     assert_eq!(
-        (search.set, search.passed, search.rounds, search.messages),
+        (search.set, search.newer, search.rounds, search.messages),
         (set(&[1, 1, 1]), 7, 0, 2)
     );
     let order = tables.move_line(Purpose::Restart).unwrap();

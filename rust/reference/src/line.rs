@@ -118,8 +118,8 @@ pub(crate) fn line_of(book: &Book) -> [usize; PROCESSES] {
     candidates.set
 }
 
-/// "The number of checkpoints newer than the line's, summed."
-pub(crate) fn passed(book: &Book, set: &[usize; PROCESSES]) -> u64 {
+/// "The number of checkpoints newer than the line's, summed", or than another set's.
+pub(crate) fn newer(book: &Book, set: &[usize; PROCESSES]) -> u64 {
     (0..book.n)
         .map(|process| (book.counts[process] - set[process]) as u64)
         .sum()
@@ -129,5 +129,5 @@ pub(crate) fn passed(book: &Book, set: &[usize; PROCESSES]) -> u64 {
 pub fn find_line(shape: &Shape, sent: &[u32], received: &[u32]) -> Result<([u64; PROCESSES], u64), u32> {
     let book = Book::accepted(shape, sent, received)?;
     let line = line_of(&book);
-    Ok((line.map(|checkpoint| checkpoint as u64), passed(&book, &line)))
+    Ok((line.map(|checkpoint| checkpoint as u64), newer(&book, &line)))
 }

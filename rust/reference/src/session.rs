@@ -3,7 +3,7 @@
 
 use crate::book::{others, Book, Shape, MARK, PROCESSES};
 use crate::initiator::Initiator;
-use crate::line::passed;
+use crate::line::newer;
 use crate::machine::{participant_question, process_question, purpose_question};
 use crate::message::{lengths_of, longest, Message, Outbox, INVITATION, OTHER, RESTART_ONLY};
 use crate::participant::{Participant, ENDED};
@@ -26,11 +26,13 @@ pub struct Session {
     pub delivered: u32,
 }
 
-/// Where a search has ended, and what it took.
+/// The set on which everybody ended, how many checkpoints are newer than it, and what the search
+/// took. With purpose 1 or 3 these are the line and T; with purpose 2 checkpoint 1 everywhere and
+/// how many checkpoints are newer than those.
 #[derive(Clone, PartialEq, Debug)]
 pub struct Searched {
     pub set: [u64; PROCESSES],
-    pub passed: u64,
+    pub newer: u64,
     pub rounds: u32,
     pub messages: u32,
 }
@@ -269,9 +271,7 @@ pub fn session_turn(
     session.turn(&book, p, strands)
 }
 
-/// A search from its start to its end, "lowest waiting strand first": where everybody has ended
-/// (the line; with purpose 2 checkpoint 1), how many checkpoints are newer, and what it took.
-/// Questions 2, 4 to 11.
+/// A search from its start to its end, "lowest waiting strand first". Questions 2, 4 to 11.
 pub fn search(shape: &Shape, sent: &[u32], received: &[u32], initiator: u64, purpose: u64) -> Result<Searched, u32> {
     let book = Book::accepted(shape, sent, received)?;
     process_question(book.n, initiator)?;
@@ -287,7 +287,7 @@ pub fn search(shape: &Shape, sent: &[u32], received: &[u32], initiator: u64, pur
     let set = session.candidates(&book);
     Ok(Searched {
         set: set.map(|checkpoint| checkpoint as u64),
-        passed: passed(&book, &set),
+        newer: newer(&book, &set),
         rounds: session.machine.rounds,
         messages: session.delivered,
     })

@@ -229,17 +229,17 @@ pub fn search(
     received: &[u32],
     initiator: u64,
     purpose: u64,
-    line: &mut [u64],
-    passed: &mut u64,
+    set: &mut [u64],
+    newer: &mut u64,
     rounds: &mut u64,
     messages: &mut u64,
 ) -> u32 {
     answer(|| {
         length_question(shape, SHAPE_WORDS)?;
-        length_question(line, SET_WORDS)?;
+        length_question(set, SET_WORDS)?;
         let found = session::search(&shape_of(shape), sent, received, initiator, purpose)?;
-        line.copy_from_slice(&found.set);
-        *passed = found.passed;
+        set.copy_from_slice(&found.set);
+        *newer = found.newer;
         *rounds = u64::from(found.rounds);
         *messages = u64::from(found.messages);
         Ok(())

@@ -49,7 +49,7 @@ fn assert_search(hex: &str, initiator: u64, line: &[u64], passed: u64, rounds: u
             found,
             Ok(Searched {
                 set: set(line),
-                passed,
+                newer: passed,
                 rounds,
                 messages
             })

@@ -223,7 +223,7 @@ fn messages_to_a_participant() {
 fn bare_restart_ends_everybody_on_checkpoint_1() {
     let (shape, sent, received) = tables();
     let found = search(&shape, &sent, &received, 1, 2).unwrap();
-    assert_eq!((found.set[..3].to_vec(), found.passed), (vec![1, 1, 0], 2));
+    assert_eq!((found.set[..3].to_vec(), found.newer), (vec![1, 1, 0], 2));
     assert_eq!((found.rounds, found.messages), (0, 1));
 }
 
