@@ -124,8 +124,8 @@ impl<'a> Book<'a> {
         Err(9)
     }
 
-    /// Whether 6 to 8 pass and "counts of absent processes, unused rows and columns, and a
-    /// process's own column are zero" (9), which a few sweeps over whole rows tell.
+    /// Whether 6 to 8 pass and "unused rows and columns, and a process's own column are zero" (9),
+    /// which a few sweeps over whole rows tell.
     fn is_sound(&self, used_rows: usize) -> bool {
         [self.sent, self.received].into_iter().all(|table| {
             let used = (0..self.n).all(|own| self.rises_from_zero(own, &table[self.rows_of(own)]));
@@ -211,12 +211,7 @@ impl<'a> Book<'a> {
     /// The number of bytes of the book: one for each number, and those of further groups, of which
     /// unused entries have none.
     fn size(&self) -> usize {
-        let further = |numbers: &[u32]| {
-            numbers
-                .iter()
-                .map(|&number| varint::further_groups(number))
-                .sum::<u32>()
-        };
+        let further = |numbers: &[u32]| -> u32 { numbers.iter().map(|&number| varint::further_groups(number)).sum() };
         let rows: usize = self.counts.iter().sum();
         let numbers = 1 + self.n + rows * 2 * (self.n - 1);
         let in_counts = further(&self.counts.map(|count| count as u32));

@@ -163,21 +163,20 @@ impl Initiator {
         send: impl FnOnce(&Outbox) -> Result<T, u32>,
     ) -> Result<T, u32> {
         let sender = report.sender as usize - 1;
-        let sent = if others(PROCESSES, sender).any(|process| self.awaited[process]) {
+        if others(PROCESSES, sender).any(|process| self.awaited[process]) {
             let sent = send(&NOTHING)?;
             take_in(&mut self.matrix[sender], &report.pairs);
             self.awaited[sender] = false;
-            sent
-        } else {
-            let mut matrix = self.matrix;
-            take_in(&mut matrix[sender], &report.pairs);
-            self.go_on(book, matrix, send)?
-        };
-        Ok(sent)
+            return Ok(sent);
+        }
+        let mut matrix = self.matrix;
+        take_in(&mut matrix[sender], &report.pairs);
+        self.go_on(book, matrix, send)
     }
 
     /// "When all awaited reports are in, it first steps back itself in the same way. Then it polls
-    /// [...]. If none differs, it sends every participant a termination."
+    /// [...]. If none differs, it sends every participant a termination." The matrix, with the last
+    /// report in it, becomes the state's once the messages are sent.
     fn go_on<T>(
         &mut self,
         book: &Book,
