@@ -16,8 +16,8 @@
  *     for its element, and points to as many elements, all of which are initialised, also those that are only written.
  *   - What a function writes to (a pointer without `const`) overlaps nothing else that is lent to the same call. What it
  *     only reads may overlap.
- *   - A pointer to a single number (`length`, `passed`, `rounds`, `messages`) is never null, is aligned, and points to a number
- *     that is initialised.
+ *   - A pointer to a single number (`length`, `passed`, `newer`, `rounds`, `messages`) is never null, is aligned, and points to
+ *     a number that is initialised.
  *   - While a call runs, nobody else writes what is lent to it or reads what it writes. Calls that share only what they
  *     read may run at the same time, in any threads, and from signal handlers.
  *   - Stack: no call was measured to need more than RECOVERY_LINE_STACK_BYTES; on a signal handler's stack that comes on top of
@@ -40,7 +40,8 @@
  *   session      n, initiator, purpose; the initiator's words; a participant's words for each of sixteen processes (all zero
  *                for absent ones, and at the initiator's place); how many bytes wait on the strand of each of sixteen processes
  *                (0 for none, for absent ones and at the initiator's place); the count of messages delivered.
- * The names in a state (process, initiator, purpose) meet questions 10 and 11. A state that does not decode
+ * The names in a state (process, initiator, purpose) meet questions 10 and 11; in a session, those of the session, of the
+ * initiator and of every participant's place that is not all zero: an empty place names nobody. A state that does not decode
  * for another reason (a stage above 2, a flag above 1, a counter or a count of rounds or deliveries of 2^32 or more) fails
  * question 13, as one does that does not fit the tables.
  *
@@ -178,7 +179,8 @@ uint32_t recovery_line_session_start(const uint64_t *shape, size_t shape_len, co
                                      size_t strands_len);
 
 /* A turn: the message that waits on process p's strand is delivered, and the replies wait then. Session, strands and tables are
- * as the start or the turn before left them. RECOVERY_LINE_STRAND_BYTES(n) bytes always suffice.
+ * as the start or the turn before left them. RECOVERY_LINE_STRAND_BYTES(n) bytes always suffice. What then holds after every
+ * list of turns, in whatever order, is proved of these words: README.md, "Demand 3 for callers from C, C++ and Rust".
  * Questions: the tables', 10, 11, 13, 17, 18.
  * Stack: 60416 bytes. */
 uint32_t recovery_line_session_turn(uint64_t *session, size_t session_len, const uint64_t *shape, size_t shape_len,
