@@ -41,12 +41,15 @@
  *                for absent ones, and at the initiator's place); how many bytes wait on the strand of each of sixteen processes
  *                (0 for none, for absent ones and at the initiator's place); the count of messages delivered.
  * The names in a state (process, initiator, purpose) meet questions 10 and 11; in a session, those of the session, of the
- * initiator and of every participant's place that is not all zero: an empty place names nobody. A state that does not decode
- * for another reason (a stage above 2, a flag above 1, a counter or a count of rounds or deliveries of 2^32 or more) fails
- * question 13, as one does that does not fit the tables.
+ * initiator and of every participant's place that is not empty (all zero; of a counter the low 32 bits). A state that does
+ * not decode for another reason (a stage above 2, a flag above 1, a counter or a count of rounds or deliveries of 2^32 or
+ * more) fails question 13, as one does that does not fit the tables.
  *
  * Tables. `sent` and `received` have RECOVERY_LINE_TABLE_ENTRIES counters each: a row of sixteen for each checkpoint,
  * processes in order, oldest checkpoint first; column p is partner p. What is unused is zero.
+ *
+ * Messages are bytes: numbers in groups of seven bits, lowest group first, the top bit of a byte set when another group follows.
+ * Kind (1 invitation, 2 other), purpose, sender, count of pairs, then the pairs (process, counter), rising by process.
  */
 #ifndef RECOVERY_LINE_H
 #define RECOVERY_LINE_H

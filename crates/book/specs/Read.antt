@@ -4,7 +4,7 @@ use mathlib.Core.List.{List}
 use Prim.Native.Nat.{ℕ}
 use lib.ListN.{length, replicate}
 use lib.Dec.{eqb}
-use Rattle.varint.specs.Sequence.{numbersAt}
+use Rattle.varint.specs.Sequence.{Numbers, numbersAt}
 use Rattle.book.specs.declared.Shape.{Shape}
 use Rattle.book.specs.Bounds.{groups, largest, mark, mostProcesses}
 use Rattle.book.specs.Layout.{Book, bookIn}
@@ -13,14 +13,17 @@ use Rattle.book.specs.InTurn.{_then_, unlessRefused}
 use Rattle.book.specs.Questions.{bytesQuestion, lengthQuestion}
 use Rattle.book.specs.Along.{bookQuestion}
 
--- the numbers that the bytes hold, up to the first place at which none stands: whoever looks for a number there finds
--- none, and question 3 fails
+-- the numbers that bytes hold from a place on, up to the first place at which none stands
+abbrev pub numbersFrom : List ℕ → ℕ → Numbers
+numbersFrom bytes at = numbersAt groups largest bytes at
+
+-- the numbers of a book: whoever looks for a number where none stands finds none, and question 3 fails
 abbrev pub numbersFound : List ℕ → List ℕ
-numbersFound bytes = numbersAt groups largest bytes 0 .found
+numbersFound bytes = numbersFrom bytes 0 .found
 
 -- and whether they end where the bytes end
 abbrev pub endWithBytes : List ℕ → Bool
-endWithBytes bytes = eqb (numbersAt groups largest bytes 0 .stop) (length bytes)
+endWithBytes bytes = eqb (numbersFrom bytes 0 .stop) (length bytes)
 
 -- the first question that a read fails: 1, 2, then 3 to 9 along the book
 unfoldable pub readQuestion : List ℕ → List ℕ → List ℕ → ℕ

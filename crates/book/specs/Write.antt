@@ -31,8 +31,8 @@ abbrev pub lengthOr : ℕ → ℕ → WriteAnswer
 lengthOr zero long = Length long
 lengthOr (suc question) long = Refused (suc question)
 
-unfoldable pub writeAnswer : Shape → List ℕ → List ℕ → List ℕ → WriteAnswer
-writeAnswer shape sent received out =
+unfoldable pub answerToWrite : Shape → List ℕ → List ℕ → List ℕ → WriteAnswer
+answerToWrite shape sent received out =
     lengthOr (writeQuestion shape sent received out) (length (bytesOf shape sent received))
 
 -- the buffer afterwards: the bytes at its start, those after them untouched

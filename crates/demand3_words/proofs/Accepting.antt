@@ -14,7 +14,7 @@ use Rattle.book.proofs.Tests.{both-and}
 use Rattle.session.specs.Calls.{startQuestion}
 use Rattle.words.specs.Words.{shapeLength, setLength, sessionLength, wrongLength, isLong}
 use Rattle.words.specs.Plain.{shapeIn}
-use Rattle.recovery_line.specs.Machines.{named}
+use Rattle.recovery_line.specs.Machines.{asProcess}
 use Rattle.recovery_line.specs.Books.{shapeQuestion, readAnswer}
 use Rattle.recovery_line.specs.Lines.{findAnswer}
 use Rattle.recovery_line.specs.Sessions.{startAnswer}
@@ -54,9 +54,9 @@ module _ (b : Lent) (long : HasLengths b) (accepted : IsAccepted (inside b)) whe
   unfolding startAnswer
   starts =
       then-both (ask wrongLength (isLong shapeLength (shapeGiven b) && isLong sessionLength (b .session)))
-      (λ _. startQuestion given (sentGiven b) (receivedGiven b) (named (b .initiator)) (b .purpose) (b .strands))
+      (λ _. startQuestion given (sentGiven b) (receivedGiven b) (asProcess (b .initiator)) (b .purpose) (b .strands))
       (both-long shapeLength sessionLength (shapeGiven b) (b .session) (shape-long b reads) (long .session))
-      ((λ i. startQuestion (same i) (sent-given b reads i) (received-given b reads i) (named (b .initiator)) (b .purpose) (b .strands))
+      ((λ i. startQuestion (same i) (sent-given b reads i) (received-given b reads i) (asProcess (b .initiator)) (b .purpose) (b .strands))
       ∙ accepted .start)
 
 pub accepts-as-inside : AcceptsAsInside

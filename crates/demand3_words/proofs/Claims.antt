@@ -20,7 +20,7 @@ use Rattle.session.specs.Calls.{turnQuestion}
 use Rattle.session.specs.Turns.{Ongoing, started, afterTurns, acceptedTurns, waitsBegun}
 use Rattle.words.specs.Words.{word}
 use Rattle.words.specs.Plain.{shapeIn}
-use Rattle.recovery_line.specs.Machines.{named}
+use Rattle.recovery_line.specs.Machines.{asProcess}
 use Rattle.recovery_line.specs.Sessions.{turnAnswer}
 use Rattle.demand3.specs.Statement.{HoldsAfter, atStart, after, nextQuestion, startWaits, shapeLeft, sentLeft, receivedLeft, viewLeft}
 use Rattle.demand3.proofs.Theorems.{demand-3}
@@ -55,7 +55,7 @@ few-of d d′ n n′ t t′ e f g h = rw (e, f, g) h
 
 module _ (b : Lent) (a : AllAccept b) (h : IsSearch b) (turns : List ℕ) where
   abbrev processes : List Process
-  processes = map named turns
+  processes = map asProcess turns
 
   holds : HoldsAfter (inside b) processes
   holds = demand-3 (inside b) (accepts b a) h processes
@@ -73,7 +73,7 @@ module _ (b : Lent) (a : AllAccept b) (h : IsSearch b) (turns : List ℕ) where
   same : given ≡ o
   same =
       λ i. afterTurns (shape-same b a i) (sent-same b a i) (received-same b a i)
-      (started (shape-same b a i) (sent-same b a i) (received-same b a i) (named (b .initiator)) (b .purpose) (b .strands)) processes
+      (started (shape-same b a i) (sent-same b a i) (received-same b a i) (asProcess (b .initiator)) (b .purpose) (b .strands)) processes
 
   long : length (shapeGiven b) ≡ 17
   long = shape-long b (a .read)
@@ -115,11 +115,11 @@ module _ (b : Lent) (a : AllAccept b) (h : IsSearch b) (turns : List ℕ) where
   passed-is : passedGiven b ≡ passed (viewLeft (inside b))
   passed-is = passed-given b a ∙ ap passed (view-same b a)
 
-  answer : (p : ℕ) → nextAnswer b turns p ≡ nextQuestion (inside b) processes (named p)
+  answer : (p : ℕ) → nextAnswer b turns p ≡ nextQuestion (inside b) processes (asProcess p)
   answer p =
       ap (λ (w : Handed). turnAnswer (w .session) (shapeGiven b) (sentGiven b) (receivedGiven b) p (w .strands)) by-calls
       ∙ answer-is (shapeGiven b) (sentGiven b) (receivedGiven b) long given given-is p
-      ∙ (λ i. turnQuestion (shape-same b a i) (sent-same b a i) (received-same b a i) (same i .session) (named p) (same i .strands))
+      ∙ (λ i. turnQuestion (shape-same b a i) (sent-same b a i) (received-same b a i) (same i .session) (asProcess p) (same i .strands))
 
   module _ (j : ℕ) (there : j < sizeGiven b) where
     within : j < shapeLeft (inside b) .n
@@ -170,7 +170,7 @@ module _ (b : Lent) (a : AllAccept b) (h : IsSearch b) (turns : List ℕ) where
       ∙ (λ i.
       pick
       (someone
-      (started (shape-same b a i) (sent-same b a i) (received-same b a i) (named (b .initiator)) (b .purpose) (b .strands) .session .machine .awaited))
+      (started (shape-same b a i) (sent-same b a i) (received-same b a i) (asProcess (b .initiator)) (b .purpose) (b .strands) .session .machine .awaited))
       1 0)
 
   begun-is :
@@ -182,7 +182,7 @@ module _ (b : Lent) (a : AllAccept b) (h : IsSearch b) (turns : List ℕ) where
       (ap (λ (p : Process). p .0) (first-lead b a))
       ∙ (λ i.
       waitsBegun (shape-same b a i) (sent-same b a i) (received-same b a i)
-      (started (shape-same b a i) (sent-same b a i) (received-same b a i) (named (b .initiator)) (b .purpose) (b .strands)) processes)
+      (started (shape-same b a i) (sent-same b a i) (received-same b a i) (asProcess (b .initiator)) (b .purpose) (b .strands)) processes)
 
   accepted-is :
       acceptedCalls (shapeGiven b) (sentGiven b) (receivedGiven b) (handedByStart b) turns
@@ -192,7 +192,7 @@ module _ (b : Lent) (a : AllAccept b) (h : IsSearch b) (turns : List ℕ) where
       ∙ accepted-are (shapeGiven b) (sentGiven b) (receivedGiven b) long turns (first b a) (first-is b a)
       ∙ (λ i.
       acceptedTurns (shape-same b a i) (sent-same b a i) (received-same b a i)
-      (started (shape-same b a i) (sent-same b a i) (received-same b a i) (named (b .initiator)) (b .purpose) (b .strands)) processes)
+      (started (shape-same b a i) (sent-same b a i) (received-same b a i) (asProcess (b .initiator)) (b .purpose) (b .strands)) processes)
 
   -- ---- together
 
@@ -233,10 +233,10 @@ module _ (b : Lent) (a : AllAccept b) (h : IsSearch b) (turns : List ℕ) where
         latest = is-latest;
         accepted-or-full = λ p least most waits.
             subst (λ (q : ℕ). (q ≡ 0) ⊎ (q ≡ 17)) (sym (answer p))
-            (holds .accepted-or-full (named p) least (waits-inside p least most waits));
+            (holds .accepted-or-full (asProcess p) least (waits-inside p least most waits));
         with-room = λ p least most waits room.
             answer p
-            ∙ holds .with-room (named p) least (waits-inside p least most waits)
+            ∙ holds .with-room (asProcess p) least (waits-inside p least most waits)
             (subst (λ (n : ℕ). roomForAll n ≤ length (b .strands)) size room);
       }
 

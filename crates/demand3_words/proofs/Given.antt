@@ -26,7 +26,7 @@ use Rattle.turns.proofs.Starting.{named-none}
 use Rattle.words.specs.Words.{word, shapeLength, setLength, sessionLength, wrongLength, isLong}
 use Rattle.words.specs.Plain.{shapeIn, shapeWords, setWords}
 use Rattle.words.specs.Session.{sessionWords}
-use Rattle.recovery_line.specs.Machines.{named}
+use Rattle.recovery_line.specs.Machines.{asProcess}
 use Rattle.recovery_line.specs.Books.{shapeQuestion, readAnswer, readShape, readSent, readReceived}
 use Rattle.recovery_line.specs.Lines.{findAnswer, findLine, findPassed}
 use Rattle.recovery_line.specs.Sessions.{startAnswer, startSession, startStrands}
@@ -86,7 +86,7 @@ module _ (b : Lent) (a : AllAccept b) where
   given = shapeIn (shapeGiven b)
 
   abbrev question : ℕ
-  question = startQuestion given (sentGiven b) (receivedGiven b) (named (b .initiator)) (b .purpose) (b .strands)
+  question = startQuestion given (sentGiven b) (receivedGiven b) (asProcess (b .initiator)) (b .purpose) (b .strands)
 
   start-asked : question ≡ 0
   unfolding startAnswer
@@ -99,7 +99,7 @@ module _ (b : Lent) (a : AllAccept b) where
       let names : Bool = isNamed (sizeGiven b) (b .initiator) in
       let both =
       then-none (ask 10 names) (λ _. ask 11 (isPurpose (b .purpose)))
-      (named-none given (sentGiven b) (receivedGiven b) (named (b .initiator)) (b .purpose) (b .strands) start-asked) in
+      (named-none given (sentGiven b) (receivedGiven b) (asProcess (b .initiator)) (b .purpose) (b .strands) start-asked) in
       (asked-yes 9 names (both .0), asked-yes 10 (isPurpose (b .purpose)) (both .1))
 
   pub is-named : isNamed (shapeLeft (inside b) .n) (b .initiator) ≡ true
@@ -125,23 +125,23 @@ module _ (b : Lent) (a : AllAccept b) where
   pub accepts : IsAccepted (inside b)
   accepts =
       let same : question
-      ≡ startQuestion (shapeLeft (inside b)) (sentLeft (inside b)) (receivedLeft (inside b)) (named (b .initiator)) (b .purpose) (b .strands) =
-      λ i. startQuestion (shape-same i) (sent-same i) (received-same i) (named (b .initiator)) (b .purpose) (b .strands) in
+      ≡ startQuestion (shapeLeft (inside b)) (sentLeft (inside b)) (receivedLeft (inside b)) (asProcess (b .initiator)) (b .purpose) (b .strands) =
+      λ i. startQuestion (shape-same i) (sent-same i) (received-same i) (asProcess (b .initiator)) (b .purpose) (b .strands) in
       record { read = read-asked b (a .read); start = sym same ∙ start-asked }
 
   -- ---- the start
 
   abbrev pub first : Ongoing
-  first = started given (sentGiven b) (receivedGiven b) (named (b .initiator)) (b .purpose) (b .strands)
+  first = started given (sentGiven b) (receivedGiven b) (asProcess (b .initiator)) (b .purpose) (b .strands)
 
   pub first-is : IsSession (first .session)
   first-is =
-      start-is-session given (sentGiven b) (receivedGiven b) (named (b .initiator)) (b .purpose) (b .strands) (counts-sixteen (shapeGiven b))
+      start-is-session given (sentGiven b) (receivedGiven b) (asProcess (b .initiator)) (b .purpose) (b .strands) (counts-sixteen (shapeGiven b))
 
-  pub first-lead : first .session .initiator ≡ named (b .initiator)
+  pub first-lead : first .session .initiator ≡ asProcess (b .initiator)
   unfolding sessionStarted withPosted begun
   first-lead =
-      let next = begun given (sentGiven b) (receivedGiven b) (named (b .initiator)) (b .purpose) in
+      let next = begun given (sentGiven b) (receivedGiven b) (asProcess (b .initiator)) (b .purpose) in
       ap (λ (s : Session). s .initiator) (kept-passed question noSession (withPosted next) start-asked)
 
   abbrev start-answer : ℕ

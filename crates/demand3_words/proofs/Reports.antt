@@ -26,7 +26,7 @@ use Rattle.session.specs.Calls.{turnQuestion}
 use Rattle.session.specs.Turns.{Ongoing, afterTurn, bringsLast, waitBegins, waitsBegun}
 use Rattle.words.specs.Words.{word, shapeLength}
 use Rattle.words.specs.Plain.{shapeIn}
-use Rattle.recovery_line.specs.Machines.{named}
+use Rattle.recovery_line.specs.Machines.{asProcess}
 use Rattle.word_laws.specs.Values.{IsSession}
 use Rattle.word_laws.proofs.Reading.{read-length}
 use Rattle.demand3_words.specs.Read.{awaitedInWords, someReportAwaited}
@@ -89,9 +89,9 @@ module _ (shape sent received : List ℕ) (long : length shape ≡ shapeLength) 
     abbrev bytes : List ℕ
     bytes = waitingBytes (shapeIn shape .n) s (o .strands) k
 
-    module _ (accepted : turnQuestion (shapeIn shape) sent received s (named p) (o .strands) ≡ 0) where
+    module _ (accepted : turnQuestion (shapeIn shape) sent received s (asProcess p) (o .strands) ≡ 0) where
       small : k < 16
-      small = place-small (shapeIn shape) sent received s (named p) (o .strands) accepted
+      small = place-small (shapeIn shape) sent received s (asProcess p) (o .strands) accepted
 
       bytes-are : bytesOnStrand shape sent received initiator (handed o) k ≡ bytes
       unfolding strandBytes shapeIn
@@ -105,20 +105,20 @@ module _ (shape sent received : List ℕ) (long : length shape ≡ shapeLength) 
           all-ext 16 (λ q. not (awaitedInWords (handed o .session) q) || eqb q k) (λ q. not (flag (s .machine .awaited) q) || eqb q k)
           (λ q h. ap (λ (t : Bool). not t || eqb q k) (awaited-read s q h))
 
-      brings-is : bringsLastReport shape sent received initiator (handed o) p ≡ bringsLast (shapeIn shape) sent received o (named p)
+      brings-is : bringsLastReport shape sent received initiator (handed o) p ≡ bringsLast (shapeIn shape) sent received o (asProcess p)
       brings-is =
           let from : eqb (senderIn (bytesOnStrand shape sent received initiator (handed o) k)) p ≡ isReport (held (shapeIn shape .n) s k bytes)
           = ap (λ (b : List ℕ). eqb (senderIn b) p) bytes-are
-          ∙ sent-up (shapeIn shape .n) s p bytes (names (shapeIn shape) sent received s (named p) (o .strands) accepted)
-          (no-stray (shapeIn shape) sent received s (named p) (o .strands) accepted) in
+          ∙ sent-up (shapeIn shape .n) s p bytes (names (shapeIn shape) sent received s (asProcess p) (o .strands) accepted)
+          (no-stray (shapeIn shape) sent received s (asProcess p) (o .strands) accepted) in
           λ i. from i && last-is i
 
-    begins-is : callBeginsWait shape sent received initiator (handed o) p ≡ waitBegins (shapeIn shape) sent received o (named p)
+    begins-is : callBeginsWait shape sent received initiator (handed o) p ≡ waitBegins (shapeIn shape) sent received o (asProcess p)
     begins-is =
-        let question : ℕ = turnQuestion (shapeIn shape) sent received s (named p) (o .strands) in
-        let next : Ongoing = afterTurn (shapeIn shape) sent received o (named p) in
+        let question : ℕ = turnQuestion (shapeIn shape) sent received s (asProcess p) (o .strands) in
+        let next : Ongoing = afterTurn (shapeIn shape) sent received o (asProcess p) in
         both-same _ (eqb question 0) _
-        (bringsLast (shapeIn shape) sent received o (named p) && someone (next .session .machine .awaited))
+        (bringsLast (shapeIn shape) sent received o (asProcess p) && someone (next .session .machine .awaited))
         (ap (λ (q : ℕ). eqb q 0) (answer-is shape sent received long o is p))
         (λ yes. λ i.
         brings-is (eqb-true question 0 yes) i
@@ -127,14 +127,14 @@ module _ (shape sent received : List ℕ) (long : length shape ≡ shapeLength) 
   -- ---- a list of calls
 
   pub begun-are : (initiator : ℕ) (turns : List ℕ) (o : Ongoing) → IsSession (o .session) → o .session .initiator .0 ≡ initiator
-      → waitsBegunBy shape sent received initiator (handed o) turns ≡ waitsBegun (shapeIn shape) sent received o (map named turns)
+      → waitsBegunBy shape sent received initiator (handed o) turns ≡ waitsBegun (shapeIn shape) sent received o (map asProcess turns)
   unfolding waitsBegunBy waitsBegun
   begun-are initiator [] o is leads = refl
   begun-are initiator (p ∷ turns) o is leads =
-      let next : Ongoing = afterTurn (shapeIn shape) sent received o (named p) in
+      let next : Ongoing = afterTurn (shapeIn shape) sent received o (asProcess p) in
       (λ i.
       pick (begins-is initiator o is leads p i) 1 0
       + waitsBegunBy shape sent received initiator (call-is shape sent received long o is p i) turns)
-      ∙ ap (λ (v : ℕ). pick (waitBegins (shapeIn shape) sent received o (named p)) 1 0 + v)
+      ∙ ap (λ (v : ℕ). pick (waitBegins (shapeIn shape) sent received o (asProcess p)) 1 0 + v)
       (begun-are initiator turns next (next-is shape sent received long o is p)
       (ap (λ (q : Process). q .0) (same-lead shape sent received long o is p) ∙ leads))

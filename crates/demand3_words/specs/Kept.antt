@@ -1,6 +1,6 @@
 -- Every session that a call hands out has one form in words: its arrays have their lengths, and its counters and counts 32 bits
 -- (`SessionBack` of word_laws). No session of any search is asked for, and no answer: beside a refusal stands the session that
--- was there, or the one that is all zero.
+-- was there, or `noSession`.
 use mathlib.Core.Path.{_≡_}
 use mathlib.Core.List.{List}
 use Prim.Native.Nat.{ℕ}

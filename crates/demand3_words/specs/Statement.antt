@@ -1,6 +1,7 @@
 -- Demand 3 for callers from other languages: over the definitions that the contracts of the exported functions
 -- `recovery_line_read`, `recovery_line_find`, `recovery_line_session_start` and `recovery_line_session_turn` cite, words and
--- strands handed from call to call, with nobody else writing. Every claim is read off the session's words (`Read.antt`).
+-- strands handed from call to call, with nobody else writing. Every claim is read off the session's words (`Read.antt`); whether a
+-- turn brings a report, off the sender of the message on its strand (`Turns.antt`).
 use mathlib.Core.Path.{_≡_}
 use mathlib.Core.Bool.{true}
 use mathlib.Core.List.{List}

@@ -11,9 +11,10 @@ use Rattle.varint.specs.Sequence.{Numbers}
 use Rattle.varint.proofs.Sequence.{numbers-none, numbers-more}
 use Rattle.book.specs.Bounds.{groups, largest}
 use Rattle.book.proofs.Tests.{and-both}
+use Rattle.book.specs.Read.{numbersFrom}
 use Rattle.message.specs.declared.HeadRead.the-variants.{Found}
 use Rattle.message.specs.Formed.{isKind, isPurpose, isNamed, headFormed, beginFormed}
-use Rattle.message.specs.Parts.{numbersFrom, HeadFound}
+use Rattle.message.specs.Parts.{HeadFound}
 use Rattle.message.proofs.Tests.{and-first, and-second}
 
 -- ---- the three numbers

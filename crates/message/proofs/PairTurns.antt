@@ -16,10 +16,11 @@ use Rattle.varint.proofs.Sequence.{numbers-none, numbers-more}
 use Rattle.book.specs.declared.Count.{Count}
 use Rattle.book.specs.Bounds.{groups, largest, mark}
 use Rattle.book.proofs.Tests.{and-both}
+use Rattle.book.specs.Read.{numbersFrom}
 use Rattle.message.specs.declared.PairsRead.{PairsRead}
 use Rattle.message.specs.Layout.{noNews}
 use Rattle.message.specs.Formed.{pairFormed, pairsFormed, newsIn, countedFormed, newsCounted}
-use Rattle.message.specs.Parts.{numbersFrom, CountedFound, PairsFound}
+use Rattle.message.specs.Parts.{CountedFound, PairsFound}
 use Rattle.message.proofs.Tests.{and-first, and-second}
 
 -- what a formed pair is

@@ -5,9 +5,10 @@ use mathlib.Core.List.{List, [], _∷_}
 use Prim.Native.Nat.{ℕ, zero, suc, _-_}
 use lib.ListN.{length, drop, getD, set}
 use lib.Dec.{ltb, leb, eqb}
-use Rattle.varint.specs.Sequence.{Numbers, numbersAt}
+use Rattle.varint.specs.Sequence.{Numbers}
 use Rattle.book.specs.declared.Count.{Count}
-use Rattle.book.specs.Bounds.{groups, largest, mark}
+use Rattle.book.specs.Bounds.{mark}
+use Rattle.book.specs.Read.{numbersFrom}
 use Rattle.consistency.specs.Known.{counters}
 use Rattle.matrix.specs.Matrix.{pick}
 use Rattle.matrix.specs.Entries.{isNews}
@@ -100,7 +101,7 @@ numbersFormed n me initiator numbers =
 
 -- "each field a number as above": one that is not whole, not shortest or over the bound ends the numbers before the end
 abbrev pub numbersIn : List ℕ → Numbers
-numbersIn s = numbersAt groups largest s 0
+numbersIn s = numbersFrom s 0
 
 -- is the message formed, read by process `me` in the initiator's search?
 unfoldable pub messageFormed : ℕ → ℕ → ℕ → List ℕ → Bool

@@ -5,16 +5,12 @@ use mathlib.Core.List.{List, _∷_}
 use Prim.Native.Nat.{ℕ}
 use lib.ListN.{length}
 use lib.Dec.{eqb}
-use Rattle.varint.specs.Sequence.{Numbers, numbersAt}
-use Rattle.book.specs.Bounds.{groups, largest}
+use Rattle.book.specs.Read.{numbersFrom}
 use Rattle.message.specs.declared.HeadRead.{HeadRead}
 use Rattle.message.specs.declared.HeadRead.the-variants.{Found, Refused}
 use Rattle.message.specs.declared.PairsRead.{PairsRead}
 use Rattle.message.specs.Layout.{noNews}
 use Rattle.message.specs.Formed.{headFormed, beginFormed, pairsFormed, newsIn, countedFormed, newsCounted}
-
-abbrev pub numbersFrom : List ℕ → ℕ → Numbers
-numbersFrom s at = numbersAt groups largest s at
 
 -- the numbers are a formed head and those from the next place on; or there is no formed head
 abbrev pub HeadFound : ℕ → List ℕ → HeadRead → Type 0

@@ -10,7 +10,7 @@ use Rattle.book.specs.declared.Shape.{Shape}
 use Rattle.book.specs.declared.WriteAnswer.the-variants.{Length}
 use Rattle.book.specs.Check.{tablesQuestion}
 use Rattle.book.specs.Tables.{shapeOf, sentTable, receivedTable}
-use Rattle.book.specs.Write.{bytesOf, writeAnswer}
+use Rattle.book.specs.Write.{bytesOf, answerToWrite}
 use Rattle.book.proofs.Questions.{kept-passed}
 use Rattle.round_trips.proofs.Theorems.{written-then-read}
 use Rattle.round_trips.proofs.Writing.{write-given, answer-given, bytes-left}
@@ -80,7 +80,7 @@ moved-passes-read m into into′ accepted l l′ =
     let s : List ℕ = sentAfter m in
     let r : List ℕ = receivedAfter m in
     let bytes : List ℕ = bytesOf shape s r in
-    let given : writeAnswer shape s r bytes ≡ Length (length bytes)
+    let given : answerToWrite shape s r bytes ≡ Length (length bytes)
     = answer-given shape s r bytes (write-given shape s r bytes (accepted-after m accepted .passed) (omega arith)) in
     rw (bytes-left shape s r bytes (length bytes) given) at
     (written-then-read shape s r bytes into into′ (length bytes) (accepted-after m accepted .sixteen) l l′ given)

@@ -16,8 +16,9 @@ use Rattle.book.specs.Questions.{sizeQuestion}
 use Rattle.book.specs.Along.{processesQuestion, bookQuestion}
 use Rattle.book.proofs.Counts.{size-none, size-many, size-given}
 use Rattle.book.proofs.Questions.{then-passed, then-refused}
+use Rattle.book.specs.Read.{numbersFrom}
 use Rattle.reader.specs.declared.Checked.{Checked}
-use Rattle.reader.specs.Parts.{numbersFrom, wholeFrom, checked, refusal, ProcessesTaken, BookTaken}
+use Rattle.reader.specs.Parts.{wholeFrom, checked, refusal, ProcessesTaken, BookTaken}
 use Rattle.reader.proofs.Answers.{taken-refused}
 
 module _ (s sent received : List ℕ) (r : Checked) where

@@ -21,7 +21,8 @@ use Rattle.book.proofs.Questions.{then-passed, then-refused, then-assoc}
 use Rattle.book.proofs.Rows.{drop-take}
 use Rattle.reader.specs.declared.Step.{Step}
 use Rattle.book.specs.Before.{countersBefore}
-use Rattle.reader.specs.Parts.{numbersFrom, RowClear, RowsClear, RowTaken, CheckpointsTaken}
+use Rattle.book.specs.Read.{numbersFrom}
+use Rattle.reader.specs.Parts.{RowClear, RowsClear, RowTaken, CheckpointsTaken}
 use Rattle.reader.proofs.CounterTurns.{length-before}
 use Rattle.reader.proofs.RowTurns.{others-put}
 use Rattle.reader.proofs.ProcessRows.{Rows, rows-begun, rows-length, rows-fit, rows-more, rows-ended}

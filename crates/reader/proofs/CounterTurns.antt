@@ -20,7 +20,8 @@ use Rattle.book.specs.Along.{countersQuestion}
 use Rattle.book.proofs.Questions.{then-passed, then-refused}
 use Rattle.book.proofs.Rows.{length-row, column-within}
 use Rattle.book.proofs.Before as rows-before
-use Rattle.reader.specs.Parts.{numbersFrom, RowClear, RowTaken}
+use Rattle.book.specs.Read.{numbersFrom}
+use Rattle.reader.specs.Parts.{RowClear, RowTaken}
 use Rattle.reader.proofs.RowTurns.{row-none, row-put}
 use Rattle.reader.proofs.Stores.{clear-same, set-within, getD-below}
 

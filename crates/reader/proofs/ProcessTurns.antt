@@ -16,9 +16,10 @@ use Rattle.book.specs.Along.{processQuestion}
 use Rattle.book.proofs.Asked.{process-long}
 use Rattle.book.proofs.Counts.{count-none, count-many, count-given}
 use Rattle.book.proofs.Questions.{then-passed, then-refused}
+use Rattle.book.specs.Read.{numbersFrom}
 use Rattle.reader.specs.declared.Step.{Step}
 use Rattle.reader.specs.declared.Counted.{Counted}
-use Rattle.reader.specs.Parts.{numbersFrom, withRows, nextProcess, refusedAt, RowsClear, CheckpointsTaken, ProcessTaken}
+use Rattle.reader.specs.Parts.{withRows, nextProcess, refusedAt, RowsClear, CheckpointsTaken, ProcessTaken}
 
 -- room for no rows is room for as many as pass question 5
 pub rows-room : (n j sum count : ℕ) (table : List ℕ) → RowsClear n j sum 0 table → sum + count ≤ 256 → RowsClear n j sum count table

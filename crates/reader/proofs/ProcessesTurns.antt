@@ -23,9 +23,10 @@ use Rattle.book.specs.Questions.{countQuestion, nothingFollows}
 use Rattle.book.specs.Along.{processQuestion, processesQuestion}
 use Rattle.book.proofs.Rows.{length-in}
 use Rattle.book.proofs.Questions.{then-passed, then-refused, then-assoc}
+use Rattle.book.specs.Read.{numbersFrom}
 use Rattle.reader.specs.declared.Counted.{Counted}
 use Rattle.reader.specs.declared.Checked.{Checked}
-use Rattle.reader.specs.Parts.{numbersFrom, wholeFrom, emptyTable, refusal, nextProcess, RowsClear, ProcessTaken, ProcessesTaken, processesAfter}
+use Rattle.reader.specs.Parts.{wholeFrom, emptyTable, refusal, nextProcess, RowsClear, ProcessTaken, ProcessesTaken, processesAfter}
 use Rattle.reader.proofs.Answers.{taken-refused, taken-passed}
 use Rattle.reader.proofs.BookRows.{Rows, rows-begun, rows-length, rows-clear, rows-more, rows-ended, sent-short, received-short}
 

@@ -7,12 +7,12 @@ use Prim.Native.Nat.{ℕ, suc, _+_, _*_, _-_, _≤_, _<_}
 use lib.ListN.{length, take, drop, getD, replicate}
 use lib.Seq.{sets}
 use lib.Dec.{leb, eqb}
-use Rattle.varint.specs.Sequence.{Numbers, numbersAt, numbersAfter}
+use Rattle.varint.specs.Sequence.{numbersAfter}
 use Rattle.book.specs.declared.Shape.{Shape}
-use Rattle.book.specs.Bounds.{groups, largest, mark, mostBytes, rowWidth, entries}
+use Rattle.book.specs.Bounds.{mark, mostBytes, rowWidth, entries}
 use Rattle.book.specs.Before.{countersBefore}
 use Rattle.book.specs.Tables.{padded, tableRow, processRows, rowsFrom, shapeOf, sentTable, receivedTable}
-use Rattle.book.specs.Read.{noShape, bookRead, readQuestion, shapeRead, sentRead, receivedRead}
+use Rattle.book.specs.Read.{numbersFrom, noShape, bookRead, readQuestion, shapeRead, sentRead, receivedRead}
 use Rattle.book.specs.Layout.{width, checkpointsIn, processesIn}
 use Rattle.book.specs.InTurn.{_then_, ask, unlessRefused}
 use Rattle.book.specs.Questions.{countQuestion}
@@ -20,10 +20,6 @@ use Rattle.book.specs.Along.{countersQuestion, processQuestion, processesQuesti
 use Rattle.reader.specs.declared.Step.{Step}
 use Rattle.reader.specs.declared.Counted.{Counted}
 use Rattle.reader.specs.declared.Checked.{Checked}
-
--- the numbers from a place on
-abbrev pub numbersFrom : List ℕ → ℕ → Numbers
-numbersFrom s at = numbersAt groups largest s at
 
 -- do the numbers end where the bytes end?
 abbrev pub wholeFrom : List ℕ → ℕ → Bool

@@ -104,11 +104,11 @@ module _ (shape sent received out : List ℕ) (before : ℕ) {q : ℕ} (same : q
       (e, (kept e out _ some, kept e before _ some))
 
   module _ (none : q ≡ 0) {given : Shape} (given-is : given ≡ shapeIn shape) {answer : WriteAnswer}
-      (answers : answer ≡ inner.writeAnswer given sent received out) {out′ : List ℕ} (left : out′ ≡ bytesWritten given sent received out)
+      (answers : answer ≡ inner.answerToWrite given sent received out) {out′ : List ℕ} (left : out′ ≡ bytesWritten given sent received out)
     where
       answer-is : answer ≡ lengthOr inside long
-      unfolding inner.writeAnswer
-      answer-is = answers ∙ (λ t. inner.writeAnswer (given-is t) sent received out)
+      unfolding inner.answerToWrite
+      answer-is = answers ∙ (λ t. inner.answerToWrite (given-is t) sent received out)
 
       write-answered : {r : ℕ} → r ≡ inside → r ≡ writeAnswer shape sent received out
       unfolding writeAnswer

@@ -16,7 +16,7 @@ use Rattle.words.specs.Plain.{numberOf, shapeIn, numberWords}
 use Rattle.words.specs.Participant.{participantWords, participantIn}
 use Rattle.words.specs.Initiator.{initiatorWords, initiatorIn}
 use Rattle.state_words.proofs.Lengths.{length-participant, length-initiator}
-use Rattle.recovery_line.specs.Machines.{named, participantFirstAnswer, participantFirstState, participantReceiveAnswer, participantReceiveState, participantReceiveOut, participantReceiveLengths, initiatorBeginAnswer, initiatorBeginState, initiatorBeginOut, initiatorBeginLengths, initiatorReceiveAnswer, initiatorReceiveState, initiatorReceiveOut, initiatorReceiveLengths}
+use Rattle.recovery_line.specs.Machines.{asProcess, participantFirstAnswer, participantFirstState, participantReceiveAnswer, participantReceiveState, participantReceiveOut, participantReceiveLengths, initiatorBeginAnswer, initiatorBeginState, initiatorBeginOut, initiatorBeginLengths, initiatorReceiveAnswer, initiatorReceiveState, initiatorReceiveOut, initiatorReceiveLengths}
 use Rattle.recovery_line.proofs.Shells.{two-long, three-long, wrong, asked, question-is, kept, put, through, put-whole, numbers-put}
 
 -- ---- a participant's first state
@@ -56,13 +56,13 @@ module _ (shape sent received : List ℕ) (me inviter purpose : ℕ) (state : Li
         pub first-refused : (r ≡ 0 → ⊥) → First r state
         first-refused some = first-untouched first-answered some
 
-        pub first-made : r ≡ 0 → {made : Participant} → made ≡ participant.firstState given sent received (named p) (named i) purpose
+        pub first-made : r ≡ 0 → {made : Participant} → made ≡ participant.firstState given sent received (asProcess p) (asProcess i) purpose
             → {state′ : List ℕ} → state′ ≡ sets state 0 (participantWords made) → First 0 state′
         unfolding participantFirstState
         first-made zeroed {made} e put-there =
             let long = two-long shapeLength participantLength shape state same none .1 in
             let there = put-whole (participantWords made) state (length-participant made) long put-there in
-            let is = e ∙ (λ t. participant.firstState (given-is t) sent received (named (p-is t)) (named (i-is t)) purpose) in
+            let is = e ∙ (λ t. participant.firstState (given-is t) sent received (asProcess (p-is t)) (asProcess (i-is t)) purpose) in
             (sym zeroed ∙ first-answered, put first-answered state _ zeroed (there ∙ ap participantWords is))
 
 -- ---- a step of either machine: its state and lengths are put, and the call inside writes to the buffer
@@ -160,7 +160,7 @@ module _ (shape sent received : List ℕ) (me purpose : ℕ) (state out lengths 
     begin-long = ask wrongLength (isLong shapeLength shape && (isLong initiatorLength state && isLong lengthsLength lengths))
 
     abbrev begin-inside : ℕ
-    begin-inside = initiator.beginQuestion (shapeIn shape) sent received (named me) purpose out
+    begin-inside = initiator.beginQuestion (shapeIn shape) sent received (asProcess me) purpose out
 
     abbrev Begun : ℕ → List ℕ → List ℕ → List ℕ → Type 0
     Begun r state′ out′ lengths′ =
@@ -174,31 +174,31 @@ module _ (shape sent received : List ℕ) (me purpose : ℕ) (state out lengths 
     begin-wrong some = step-wrong begin-long begin-inside state out lengths _ _ _ same some
 
     module _ (none : q ≡ 0) {given : Shape} (given-is : given ≡ shapeIn shape) {p : ℕ} (p-is : p ≡ me) {answer : Answer} {r : ℕ}
-        (number : r ≡ numberOf answer) (answers : answer ≡ answerTo (initiator.beginQuestion given sent received (named p) purpose out))
-        {out′ : List ℕ} (left : out′ ≡ initiator.bytesBegun given sent received (named p) purpose out)
+        (number : r ≡ numberOf answer) (answers : answer ≡ answerTo (initiator.beginQuestion given sent received (asProcess p) purpose out))
+        {out′ : List ℕ} (left : out′ ≡ initiator.bytesBegun given sent received (asProcess p) purpose out)
       where
         of-begin : r ≡ begin-inside
         of-begin =
             question-is begin-inside number
-            (answers ∙ (λ t. answerTo (initiator.beginQuestion (given-is t) sent received (named (p-is t)) purpose out)))
+            (answers ∙ (λ t. answerTo (initiator.beginQuestion (given-is t) sent received (asProcess (p-is t)) purpose out)))
 
-        begin-left : out′ ≡ initiator.bytesBegun (shapeIn shape) sent received (named me) purpose out
-        begin-left = left ∙ (λ t. initiator.bytesBegun (given-is t) sent received (named (p-is t)) purpose out)
+        begin-left : out′ ≡ initiator.bytesBegun (shapeIn shape) sent received (asProcess me) purpose out
+        begin-left = left ∙ (λ t. initiator.bytesBegun (given-is t) sent received (asProcess (p-is t)) purpose out)
 
         pub begin-refused : (r ≡ 0 → ⊥) → Begun r state out′ lengths
         unfolding initiatorBeginAnswer initiatorBeginState initiatorBeginOut initiatorBeginLengths initiator.bytesBegun
         begin-refused some = step-refused begin-long begin-inside state out lengths _ _ _ same none of-begin begin-left some
 
-        pub begin-done : r ≡ 0 → {next : Initiator} → next ≡ initiator.stateBegun given sent received (named p) purpose out
+        pub begin-done : r ≡ 0 → {next : Initiator} → next ≡ initiator.stateBegun given sent received (asProcess p) purpose out
             → {state′ : List ℕ} → state′ ≡ sets state 0 (initiatorWords next)
-            → {counts : List ℕ} → counts ≡ initiator.lengthsBegun given sent received (named p) purpose out
+            → {counts : List ℕ} → counts ≡ initiator.lengthsBegun given sent received (asProcess p) purpose out
             → {lengths′ : List ℕ} → lengths′ ≡ sets lengths 0 (numberWords counts) → Begun 0 state′ out′ lengths′
         unfolding initiatorBeginAnswer initiatorBeginState initiatorBeginOut initiatorBeginLengths initiator.bytesBegun
         begin-done zeroed {next} e put-there {counts} f put-there′ =
             let long = three-long shapeLength initiatorLength lengthsLength shape state lengths same none .1 in
             let there = put-whole (initiatorWords next) state (length-initiator next) (long .0) put-there in
-            let is = e ∙ (λ t. initiator.stateBegun (given-is t) sent received (named (p-is t)) purpose out) in
-            let are = f ∙ (λ t. initiator.lengthsBegun (given-is t) sent received (named (p-is t)) purpose out) in
+            let is = e ∙ (λ t. initiator.stateBegun (given-is t) sent received (asProcess (p-is t)) purpose out) in
+            let are = f ∙ (λ t. initiator.lengthsBegun (given-is t) sent received (asProcess (p-is t)) purpose out) in
             step-done begin-long begin-inside state out lengths _ _ _ same none of-begin begin-left zeroed
             (there ∙ ap initiatorWords is) (numbers-put lengths (long .1) counts put-there′ ∙ ap numberWords are)
 

@@ -12,8 +12,8 @@ use Rattle.words.specs.Participant.{participantWords, participantIn}
 use Rattle.words.specs.Initiator.{initiatorWords, initiatorIn}
 
 -- a process that a call names
-abbrev pub named : ℕ → Process
-named p = record { 0 = p }
+abbrev pub asProcess : ℕ → Process
+asProcess p = record { 0 = p }
 
 -- ---- a participant's first state
 
@@ -26,7 +26,7 @@ module _ (shape sent received : List ℕ) (me inviter purpose : ℕ) (state : Li
   unfoldable pub participantFirstState : List ℕ
   participantFirstState =
       unlessRefused participantFirstAnswer state
-      (participantWords (participant.firstState (shapeIn shape) sent received (named me) (named inviter) purpose))
+      (participantWords (participant.firstState (shapeIn shape) sent received (asProcess me) (asProcess inviter) purpose))
 
 -- ---- a participant receives a message
 
@@ -57,22 +57,22 @@ module _ (shape sent received : List ℕ) (me purpose : ℕ) (state out lengths 
   unfoldable pub initiatorBeginAnswer : ℕ
   initiatorBeginAnswer =
       ask wrongLength (isLong shapeLength shape && (isLong initiatorLength state && isLong lengthsLength lengths))
-      then λ _. initiator.beginQuestion (shapeIn shape) sent received (named me) purpose out
+      then λ _. initiator.beginQuestion (shapeIn shape) sent received (asProcess me) purpose out
 
   unfoldable pub initiatorBeginState : List ℕ
   initiatorBeginState =
       unlessRefused initiatorBeginAnswer state
-      (initiatorWords (initiator.stateBegun (shapeIn shape) sent received (named me) purpose out))
+      (initiatorWords (initiator.stateBegun (shapeIn shape) sent received (asProcess me) purpose out))
 
   unfoldable pub initiatorBeginOut : List ℕ
   initiatorBeginOut =
       unlessRefused initiatorBeginAnswer out
-      (initiator.bytesBegun (shapeIn shape) sent received (named me) purpose out)
+      (initiator.bytesBegun (shapeIn shape) sent received (asProcess me) purpose out)
 
   unfoldable pub initiatorBeginLengths : List ℕ
   initiatorBeginLengths =
       unlessRefused initiatorBeginAnswer lengths
-      (numberWords (initiator.lengthsBegun (shapeIn shape) sent received (named me) purpose out))
+      (numberWords (initiator.lengthsBegun (shapeIn shape) sent received (asProcess me) purpose out))
 
 -- ---- an initiator receives a report
 

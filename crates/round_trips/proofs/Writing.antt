@@ -12,7 +12,7 @@ use Rattle.book.specs.declared.Shape.{Shape}
 use Rattle.book.specs.declared.WriteAnswer.the-variants.{Length}
 use Rattle.book.specs.InTurn.{ask}
 use Rattle.book.specs.Check.{tablesQuestion}
-use Rattle.book.specs.Write.{bytesOf, writeQuestion, lengthOr, writeAnswer, bytesWritten}
+use Rattle.book.specs.Write.{bytesOf, writeQuestion, lengthOr, answerToWrite, bytesWritten}
 use Rattle.book.proofs.Questions.{then-none, then-both, asked-yes, ask-yes, kept-passed}
 
 length-answer : (q m long : ℕ) → lengthOr q m ≡ Length long → (q ≡ 0) × (m ≡ long)
@@ -39,12 +39,12 @@ module _ (shape : Shape) (s r out : List ℕ) where
       let a = then-none (tablesQuestion shape s r) from-room h in
       (a .0, leb-true (length bytes) (length out) (asked-yes 16 (leb (length bytes) (length out)) (a .1)))
 
-  pub answer-given : writeQuestion shape s r out ≡ 0 → writeAnswer shape s r out ≡ Length (length bytes)
-  unfolding writeAnswer
+  pub answer-given : writeQuestion shape s r out ≡ 0 → answerToWrite shape s r out ≡ Length (length bytes)
+  unfolding answerToWrite
   answer-given h = rw h
 
-  pub answer-taken : (long : ℕ) → writeAnswer shape s r out ≡ Length long → (writeQuestion shape s r out ≡ 0) × (length bytes ≡ long)
-  unfolding writeAnswer
+  pub answer-taken : (long : ℕ) → answerToWrite shape s r out ≡ Length long → (writeQuestion shape s r out ≡ 0) × (length bytes ≡ long)
+  unfolding answerToWrite
   answer-taken long e = length-answer (writeQuestion shape s r out) (length bytes) long e
 
   -- the book's bytes begin the buffer, and the rest of it is as before
@@ -54,7 +54,7 @@ module _ (shape : Shape) (s r out : List ℕ) where
       kept-passed (writeQuestion shape s r out) out (sets out 0 bytes) h
       ∙ rw (zero-add (length bytes)) at (sets-eq bytes out 0 (rw (zero-add (length bytes)) (write-taken h .1)))
 
-  pub bytes-left : (long : ℕ) → writeAnswer shape s r out ≡ Length long → take long (bytesWritten shape s r out) ≡ bytes
+  pub bytes-left : (long : ℕ) → answerToWrite shape s r out ≡ Length long → take long (bytesWritten shape s r out) ≡ bytes
   bytes-left long e =
       let a = answer-taken long e in
       rw (buffer-left (a .0)) (take-at bytes (drop (length bytes) out) long (a .1))

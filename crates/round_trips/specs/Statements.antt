@@ -15,7 +15,7 @@ use Rattle.book.specs.Tables.{shapeOf, sentTable, receivedTable, bookOf, partne
 use Rattle.book.specs.View.{count, S, R}
 use Rattle.book.specs.Check.{tablesQuestion}
 use Rattle.book.specs.Read.{readQuestion, shapeRead, sentRead, receivedRead}
-use Rattle.book.specs.Write.{bookBytes, bytesOf, writeAnswer, bytesWritten}
+use Rattle.book.specs.Write.{bookBytes, bytesOf, answerToWrite, bytesWritten}
 use Rattle.book.specs.Layout.{Book}
 use Rattle.round_trips.specs.WellFormed.{process, counter, WellFormed}
 
@@ -27,7 +27,7 @@ ReadThenWritten =
     → let shape : Shape = shapeRead bytes sent received in
     let sent′ : List ℕ = sentRead bytes sent received in
     let received′ : List ℕ = receivedRead bytes sent received in
-    (writeAnswer shape sent′ received′ out ≡ Length (length bytes))
+    (answerToWrite shape sent′ received′ out ≡ Length (length bytes))
     × (bytesWritten shape sent′ received′ out ≡ bytes ++ drop (length bytes) out)
 
 -- Tables written, with a length for an answer, and so many bytes of the buffer then read, into any two tables of 4,096
@@ -35,7 +35,7 @@ ReadThenWritten =
 abbrev pub WrittenThenRead : Type 0
 WrittenThenRead =
     (shape : Shape) (sent received out into into′ : List ℕ) (long : ℕ) → length (shape .counts) ≡ mostProcesses
-    → length into ≡ entries → length into′ ≡ entries → writeAnswer shape sent received out ≡ Length long
+    → length into ≡ entries → length into′ ≡ entries → answerToWrite shape sent received out ≡ Length long
     → let bytes : List ℕ = take long (bytesWritten shape sent received out) in
     (readQuestion bytes into into′ ≡ 0)
     × (shapeRead bytes into into′ ≡ shape)

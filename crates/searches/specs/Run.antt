@@ -25,8 +25,8 @@ runQuestion bytes sent received initiator purpose =
     then λ _. ask 11 (isPurpose purpose)
 
 module _ (bytes sent received : List ℕ) (initiator : Process) (purpose : ℕ) where
-  abbrev pub question : ℕ
-  question = runQuestion bytes sent received initiator purpose
+  abbrev pub runRefusal : ℕ
+  runRefusal = runQuestion bytes sent received initiator purpose
 
   -- what demand 3's list begins with
   abbrev pub beginning : Beginning
@@ -41,17 +41,17 @@ module _ (bytes sent received : List ℕ) (initiator : Process) (purpose : ℕ) 
       }
 
   unfoldable pub shapeRun : Shape
-  shapeRun = unlessRefused question noShape (shapeRead bytes sent received)
+  shapeRun = unlessRefused runRefusal noShape (shapeRead bytes sent received)
 
   unfoldable pub sentRun : List ℕ
-  sentRun = unlessRefused question sent (sentRead bytes sent received)
+  sentRun = unlessRefused runRefusal sent (sentRead bytes sent received)
 
   unfoldable pub receivedRun : List ℕ
-  receivedRun = unlessRefused question received (receivedRead bytes sent received)
+  receivedRun = unlessRefused runRefusal received (receivedRead bytes sent received)
 
   -- demand 3 holds after the turns, where the run is accepted and searches
   abbrev pub CarriesDemand3 : List ℕ → Type 0
-  CarriesDemand3 turns = question ≡ 0 → Searches beginning → HoldsAfter beginning (asProcesses turns)
+  CarriesDemand3 turns = runRefusal ≡ 0 → Searches beginning → HoldsAfter beginning (asProcesses turns)
 
   unfoldable pub sessionRun : List ℕ → Session
-  sessionRun turns = unlessRefused question noSession (after beginning (asProcesses turns) .session)
+  sessionRun turns = unlessRefused runRefusal noSession (after beginning (asProcesses turns) .session)

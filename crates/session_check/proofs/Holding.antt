@@ -10,13 +10,14 @@ use lib.ListN.{length, take, drop, getD}
 use lib.Dec.{eqb}
 use Rattle.varint.specs.Sequence.{Numbers}
 use Rattle.book.specs.InTurn.{_then_, ask}
+use Rattle.book.specs.Read.{numbersFrom}
 use Rattle.matrix.specs.Matrix.{pick}
 use Rattle.matrix.specs.Entries.{allLower}
 use Rattle.message.specs.declared.Head.{Head}
 use Rattle.message.specs.declared.Message.{Message}
 use Rattle.message.specs.declared.HeadRead.the-variants.{Found}
 use Rattle.message.specs.Formed.{beginFormed, messageFormed}
-use Rattle.message.specs.Parts.{numbersFrom, HeadFound}
+use Rattle.message.specs.Parts.{HeadFound}
 use Rattle.message.proofs.Messages.{no-head}
 use Rattle.machine.specs.Sends.{isTermination}
 use Rattle.participant.specs.declared.Participant.{Participant}

@@ -11,7 +11,7 @@ use lib.Seq.{sets, sets-eq, drop-at, length-take-le}
 use lib.Bits.{bitAnd, bitOr, and-mask, mask-lt, or-lt, or-shifted-r}
 use Rattle.varint.specs.declared.Written.the-variants.{Next, Full}
 use Rattle.varint.specs.Number.{encode}
-use Rattle.varint.specs.Write.{placeAfter, bytesAfter}
+use Rattle.varint.specs.Write.{placeAfter, numberPut}
 use Rattle.varint.proofs.Encode.{encode-last, encode-more, encode-some, encode-size}
 
 -- ---- groups by masks and shifts
@@ -109,10 +109,10 @@ pub place-full : (v : ℕ) (out : List ℕ) (at : ℕ) → length out < at + len
 unfolding placeAfter
 place-full v out at h = rw (lt-leb (at + length (encode v)) (length out) h, placeAfter)
 
-pub bytes-room : (v : ℕ) (out : List ℕ) (at : ℕ) → at + length (encode v) ≤ length out → bytesAfter v out at ≡ sets out at (encode v)
-unfolding bytesAfter
-bytes-room v out at h = rw (le-leb (at + length (encode v)) (length out) h, bytesAfter)
+pub bytes-room : (v : ℕ) (out : List ℕ) (at : ℕ) → at + length (encode v) ≤ length out → numberPut v out at ≡ sets out at (encode v)
+unfolding numberPut
+bytes-room v out at h = rw (le-leb (at + length (encode v)) (length out) h, numberPut)
 
-pub bytes-full : (v : ℕ) (out : List ℕ) (at : ℕ) → length out < at + length (encode v) → bytesAfter v out at ≡ out
-unfolding bytesAfter
-bytes-full v out at h = rw (lt-leb (at + length (encode v)) (length out) h, bytesAfter)
+pub bytes-full : (v : ℕ) (out : List ℕ) (at : ℕ) → length out < at + length (encode v) → numberPut v out at ≡ out
+unfolding numberPut
+bytes-full v out at h = rw (lt-leb (at + length (encode v)) (length out) h, numberPut)

@@ -9,7 +9,7 @@ use lib.Pow.{areBytes}
 use Rattle.varint.specs.declared.Numeral.the-variants.{Number}
 use Rattle.varint.specs.Number.{encode, readNumber}
 use Rattle.varint.specs.Sequence.{encodeAll, numbersAt}
-use Rattle.varint.specs.Write.{bytesAfter}
+use Rattle.varint.specs.Write.{numberPut}
 
 -- reading what was written gives the number and the place after it, whatever follows
 abbrev pub ReadsBack : Type 0
@@ -22,7 +22,7 @@ abbrev pub WrittenIsRead : Type 0
 WrittenIsRead =
     (groups limit n : ℕ) (out : List ℕ) (at : ℕ) → 1 ≤ groups → n < 128 ^ groups → n ≤ limit
     → at + length (encode n) ≤ length out
-    → readNumber groups limit (bytesAfter n out at) at ≡ Number n (at + length (encode n))
+    → readNumber groups limit (numberPut n out at) at ≡ Number n (at + length (encode n))
 
 -- what was read, written again, is the bytes that were read; the next place is right after them, and the limit holds
 abbrev pub WritesBack : Type 0

@@ -17,5 +17,5 @@ roomFor n out at = leb (at + length (encode n)) (length out)
 unfoldable pub placeAfter : ℕ → List ℕ → ℕ → Written
 placeAfter n out at = elim (roomFor n out at) [ true ↦ Next (at + length (encode n)) | false ↦ Full ]
 
-unfoldable pub bytesAfter : ℕ → List ℕ → ℕ → List ℕ
-bytesAfter n out at = elim (roomFor n out at) [ true ↦ sets out at (encode n) | false ↦ out ]
+unfoldable pub numberPut : ℕ → List ℕ → ℕ → List ℕ
+numberPut n out at = elim (roomFor n out at) [ true ↦ sets out at (encode n) | false ↦ out ]

@@ -6,7 +6,7 @@ ghost use lib.Seq.{sets};
 ghost use lib.ListN.{length};
 ghost use Rattle.varint.specs.Ending.{Ending, endedBy};
 ghost use Rattle.varint.specs.Number.{encode, readNumber};
-ghost use Rattle.varint.specs.Write.{placeAfter, bytesAfter};
+ghost use Rattle.varint.specs.Write.{placeAfter, numberPut};
 
 // What stands at a place.
 pub enum Numeral {
@@ -152,7 +152,7 @@ pub fn put_number(v: u64, out: &mut [u8], at: usize) -> usize
 // The number's bytes written at a place, where there is room for them.
 pub fn write_number(v: u64, out: &mut [u8], at: usize) -> Written
     ensures answer { λ r. ⌜ r ≡ placeAfter v (now (out .entry)) at ⌝ }
-    ensures bytes { λ _. ⌜ now (out .exit) ≡ bytesAfter v (now (out .entry)) at ⌝ }
+    ensures bytes { λ _. ⌜ now (out .exit) ≡ numberPut v (now (out .entry)) at ⌝ }
 {
     let n = size_of(v);
     if out.len() < at {

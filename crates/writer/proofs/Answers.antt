@@ -14,7 +14,7 @@ use Rattle.book.specs.View.{sum}
 use Rattle.book.specs.InTurn.{_then_, ask}
 use Rattle.book.specs.Questions.{sizeQuestion, lengthQuestion}
 use Rattle.book.specs.Check.{countsQuestion, tablesQuestion}
-use Rattle.book.specs.Write.{bytesOf, lengthOr, writeQuestion, writeAnswer, bytesWritten}
+use Rattle.book.specs.Write.{bytesOf, lengthOr, writeQuestion, answerToWrite, bytesWritten}
 use Rattle.book.specs.Fits.{BookFits}
 use Rattle.book.proofs.Questions.{then-refused, then-none, asked-yes, kept-refused}
 use Rattle.book.proofs.Counts.{counts-few}
@@ -52,8 +52,8 @@ module _ (shape : Shape) (sent received : List ℕ) where
 
     -- a question of the tables fails
     pub refused : {q : ℕ} → q ≡ tablesQuestion shape sent received → (q ≡ 0 → ⊥)
-        → (Refused q ≡ writeAnswer shape sent received out) × (out ≡ bytesWritten shape sent received out)
-    unfolding writeAnswer bytesWritten writeQuestion fits-buffer
+        → (Refused q ≡ answerToWrite shape sent received out) × (out ≡ bytesWritten shape sent received out)
+    unfolding answerToWrite bytesWritten writeQuestion fits-buffer
     refused {q} e f =
         let first = then-refused (tablesQuestion shape sent received) fits-buffer (λ z. f (e ∙ z)) in
         let w : writeQuestion shape sent received out ≡ q = first ∙ sym e in
@@ -62,13 +62,13 @@ module _ (shape : Shape) (sent received : List ℕ) where
     module _ (e : tablesQuestion shape sent received ≡ 0) where
       -- question 17 fails
       pub full : leb (length (bytesOf shape sent received)) (length out) ≡ false
-          → (Refused 17 ≡ writeAnswer shape sent received out) × (out ≡ bytesWritten shape sent received out)
-      unfolding writeAnswer bytesWritten writeQuestion
+          → (Refused 17 ≡ answerToWrite shape sent received out) × (out ≡ bytesWritten shape sent received out)
+      unfolding answerToWrite bytesWritten writeQuestion
       full h = rw (e, h) (refl, refl)
 
       -- none fails
       pub written : {size : ℕ} {out′ : List ℕ} → leb (length (bytesOf shape sent received)) (length out) ≡ true
           → size ≡ length (bytesOf shape sent received) → out′ ≡ sets out 0 (bytesOf shape sent received)
-          → (Length size ≡ writeAnswer shape sent received out) × (out′ ≡ bytesWritten shape sent received out)
-      unfolding writeAnswer bytesWritten writeQuestion
+          → (Length size ≡ answerToWrite shape sent received out) × (out′ ≡ bytesWritten shape sent received out)
+      unfolding answerToWrite bytesWritten writeQuestion
       written h same w = rw (e, h) (ap Length same, w)

@@ -9,7 +9,7 @@ ghost use lib.Seq.{sets};
 ghost use lib.Dec.{leb};
 ghost use Rattle.book.specs.Tables.{partnerColumn};
 ghost use Rattle.book.specs.Check.{tablesQuestion};
-ghost use Rattle.book.specs.Write.{bytesOf, writeAnswer, bytesWritten};
+ghost use Rattle.book.specs.Write.{bytesOf, answerToWrite, bytesWritten};
 ghost use Rattle.book.specs.Fits.{RowsFit, BookFits};
 ghost use Rattle.writer.specs.Parts.{rowBytes, checkpointBytes, checkpointsBytes, processBytes};
 
@@ -224,7 +224,7 @@ fn has_room(shape: Shape, sent: &[Counter], received: &[Counter], room: usize) -
 // The tables' book written to the start of a buffer: how many bytes, or the first question that fails, the buffer then
 // unchanged. Bytes after the written ones are not touched.
 pub fn write(shape: Shape, sent: &[Counter], received: &[Counter], out: &mut [u8]) -> WriteAnswer
-    ensures answer { λ r. ⌜ r ≡ writeAnswer shape (now (sent .entry)) (now (received .entry)) (now (out .entry)) ⌝ }
+    ensures answer { λ r. ⌜ r ≡ answerToWrite shape (now (sent .entry)) (now (received .entry)) (now (out .entry)) ⌝ }
     ensures bytes { λ _. ⌜ now (out .exit) ≡ bytesWritten shape (now (sent .entry)) (now (received .entry)) (now (out .entry)) ⌝ }
 {
     let question = tables::question(shape, sent, received);
