@@ -11,7 +11,7 @@ use Rattle.book.specs.View.{sum}
 use Rattle.book.specs.Check.{countsQuestion}
 use Rattle.book.specs.Questions.{sizeQuestion, countQuestion, lengthQuestion}
 use Rattle.book.proofs.Questions.{then-none, then-both, asked-yes}
-use Rattle.book.proofs.Tests.{and-both}
+use Rattle.lists.proofs.Tests.{and-both}
 
 pub lengths-taken : (s r : List ℕ) → lengthQuestion s r ≡ 0 → (length s ≡ 4096) × (length r ≡ 4096)
 lengths-taken s r h =

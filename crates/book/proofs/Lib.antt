@@ -8,5 +8,3 @@ pub mod Rows
 pub mod Starts
 pub mod Stores
 pub mod Sums
-pub mod Tests
-pub mod Loops

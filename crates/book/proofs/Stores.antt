@@ -1,4 +1,4 @@
--- Runs of stores one after another, zeros up to an entry, and a table whose rows are followed by zeros.
+-- Zeros stored up to an entry, and a table whose rows are followed by zeros.
 use mathlib.Core.Path.{_≡_, sym, ap, ap₂, _∙_}
 use mathlib.Core.List.{List, [], _∷_, _++_, append-nil}
 use Prim.Native.Nat.{ℕ, suc, _+_, _-_, _*_, _≤_, _<_}
@@ -6,18 +6,8 @@ use native.Mathlib.Nat.{add-zero, add-suc, suc-add}
 use native.Mathlib.Omega.{arith}
 use lib.ListN.{length, drop, set, replicate, length-append, length-replicate, replicate-append-replicate, drop-of-length-le}
 use lib.Seq.{sets, sets-eq, length-sets}
+use Rattle.lists.proofs.Stores.{sets-append, sets-more}
 use Rattle.book.specs.Tables.{padded}
-
--- a run of stores that goes on where another ended is one run
-pub sets-append : (a b l : List ℕ) (at : ℕ) → sets (sets l at a) (at + length a) b ≡ sets l at (a ++ b)
-sets-append [] b l at = ap (λ (k : ℕ). sets l k b) (add-zero at)
-sets-append (v ∷ a) b l at =
-    ap (λ (k : ℕ). sets (sets (set l at v) (suc at) a) k b) (add-suc at (length a) ∙ sym (suc-add at (length a)))
-    ∙ sets-append a b (set l at v) (suc at)
-
--- one store more
-pub sets-more : (done l : List ℕ) (from i v : ℕ) → i ≡ from + length done → set (sets l from done) i v ≡ sets l from (done ++ (v ∷ []))
-sets-more done l from i v e = ap (λ (k : ℕ). set (sets l from done) k v) e ∙ sets-append done (v ∷ []) l from
 
 -- the table has zeros from one entry up to another
 pub record Cleared (table₀ : List ℕ) (from to : ℕ) (table : List ℕ) (i : ℕ) : Type 0 where

@@ -1,4 +1,5 @@
 pub mod Bounds
+pub mod Names
 pub mod Layout
 pub mod Tables
 pub mod View

@@ -5,6 +5,7 @@ ghost use mathlib.Core.Bool.{false};
 ghost use Prim.Native.Nat.{_+_, _-_, _*_, _≤_, _<_};
 ghost use lib.ListN.{length, replicate};
 ghost use lib.Seq.{sets};
+ghost use Rattle.book.specs.Names.{isNamed, isPurpose};
 ghost use Rattle.book.specs.Tables.{partnerColumn};
 ghost use Rattle.book.specs.View.{sum, firstRows, counterFrom};
 ghost use Rattle.book.specs.Before.{entryBefore};
@@ -69,6 +70,20 @@ pub fn wide(v: Counter) -> u64
     ensures { λ r. ⌜ r ≡ v ⌝ }
 {
     v as u64
+}
+
+// Is the purpose 1, 2 or 3 (question 11)?
+pub fn is_purpose(purpose: u64) -> bool
+    ensures { λ r. ⌜ r ≡ isPurpose purpose ⌝ }
+{
+    1 <= purpose && purpose <= 3
+}
+
+// Is the process from 1 to n (question 10)?
+pub fn is_named(n: usize, process: usize) -> bool
+    ensures { λ r. ⌜ r ≡ isNamed n process ⌝ }
+{
+    1 <= process && process <= n
 }
 
 // Question 7 asks only the counters of an oldest checkpoint.

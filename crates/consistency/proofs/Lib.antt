@@ -1,4 +1,3 @@
-pub mod Fills
 pub mod Permits
 pub mod Near
 pub mod There

@@ -7,7 +7,7 @@ use native.Mathlib.Numerals.{add-one}
 use native.Mathlib.Decide.{decLt}
 use native.Mathlib.Omega.{arith}
 use Rattle.line_theory.specs.Search.{permitted, newest}
-use Rattle.line_theory.proofs.Over.{last-no}
+use Rattle.lists.proofs.Over.{last-no}
 use Rattle.line_theory.proofs.Tests.{refused-by, refused-witness}
 use Rattle.consistency.proofs.Permits.{newest-none, newest-here}
 

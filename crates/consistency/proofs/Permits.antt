@@ -3,14 +3,14 @@ use mathlib.Core.Path.{_≡_, refl, sym, subst}
 use mathlib.Core.Bool.{true, false}
 use Prim.Native.Nat.{ℕ, zero, suc, _+_, _-_, _≤_, _<_}
 use native.Mathlib.Omega.{arith}
-use Rattle.line_theory.specs.Over.{lastTo}
+use Rattle.lists.specs.Over.{lastTo}
 use Rattle.line_theory.specs.Search.{permitted, newest}
-use Rattle.line_theory.proofs.Over.{last-yes, last-no}
+use Rattle.lists.proofs.Over.{last-yes, last-no}
 use Rattle.line_theory.proofs.Tests.{permitted-in, permitted-out, refused-by}
 use Rattle.consistency.specs.declared.Permission.{Permission}
 use Rattle.consistency.specs.declared.Permission.the-variants.{Permitted, Offends}
 use Rattle.consistency.specs.Known.{isPermitted, Offender, CheckpointTested}
-use Rattle.book.proofs.Loops.{below-more}
+use Rattle.lists.proofs.Fills.{below-more}
 
 -- a number from 1 on is one more than the same from 0 on
 pub from-one : (p : ℕ) → p + 1 - 1 ≡ p

@@ -9,8 +9,8 @@ use lib.Dec.{ltb, leb, eqb}
 use Rattle.book.specs.declared.Shape.{Shape}
 use Rattle.book.specs.declared.Checkpoint.{Checkpoint}
 use Rattle.book.specs.View.{count}
-use Rattle.book.proofs.Tests.{and-both}
-use Rattle.line_theory.proofs.Over.{all-in, all-out, all-not}
+use Rattle.lists.proofs.Tests.{and-both}
+use Rattle.lists.proofs.Over.{all-in, all-out, all-not}
 use Rattle.consistency.specs.Set.{chosen, isThere, allThere}
 
 pub there-absent : (present : Bool) (checkpoints r : ℕ) → present ≡ false → eqb r 0 ≡ isThere present checkpoints r

@@ -11,7 +11,7 @@ use Rattle.book.specs.Bounds.{mostProcesses}
 use Rattle.book.specs.View as view
 use Rattle.book.specs.InTurn.{_then_, ask}
 use Rattle.book.specs.Check.{tablesQuestion}
-use Rattle.line_theory.specs.Over.{allTo}
+use Rattle.lists.specs.Over.{allTo}
 use Rattle.line_theory.specs.Sets.{View, atFault, consistent}
 use Rattle.line_theory.specs.OfTables.{viewOf}
 use Rattle.consistency.specs.declared.SetAnswer.{SetAnswer}

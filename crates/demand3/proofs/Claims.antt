@@ -8,10 +8,10 @@ use native.Mathlib.Omega.{arith}
 use lib.ListN.{length}
 use Rattle.book.specs.declared.Process.{Process}
 use Rattle.book.specs.Bounds.{mark}
-use Rattle.line_theory.specs.Over.{allTo}
+use Rattle.lists.specs.Over.{allTo}
 use Rattle.line_theory.specs.Sets.{IsLine}
 use Rattle.line_theory.specs.Search.{line}
-use Rattle.line_theory.proofs.Over.{all-in, sum-at}
+use Rattle.lists.proofs.Over.{all-in, sum-at}
 use Rattle.line_theory.proofs.Theorems.{line-is-line}
 use Rattle.exchange_laws.specs.Ends.{isSearch}
 use Rattle.strands.specs.Strands.{roomForAll}

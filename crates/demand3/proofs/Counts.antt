@@ -8,9 +8,10 @@ use borrow.Author.Tests.{eqb-true, not-false}
 use lib.ListN.{length}
 use lib.Dec.{eqb}
 use Rattle.book.specs.Bounds.{mostProcesses}
-use Rattle.line_theory.specs.Over.{allTo, tab}
-use Rattle.line_theory.proofs.Over.{getD-tab}
-use Rattle.matrix.specs.Matrix.{pick, row}
+use Rattle.lists.specs.Over.{allTo, tab}
+use Rattle.lists.proofs.Over.{getD-tab}
+use Rattle.lists.specs.Pick.{pick}
+use Rattle.matrix.specs.Matrix.{row}
 use Rattle.matrix.specs.Entries.{allLower}
 use Rattle.message.specs.declared.Message.{Message}
 use Rattle.message.specs.Formed.{messageFormed}

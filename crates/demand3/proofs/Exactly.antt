@@ -6,8 +6,8 @@ use mathlib.Core.Logic.{⊎-elim}
 use Prim.Native.Nat.{ℕ, _≤_, _<_}
 use borrow.Author.Tests.{not-true, not-false}
 use lib.ListN.{length}
-use Rattle.line_theory.specs.Over.{allTo}
-use Rattle.line_theory.proofs.Over.{all-in, all-out, all-not, all-witness}
+use Rattle.lists.specs.Over.{allTo}
+use Rattle.lists.proofs.Over.{all-in, all-out, all-not, all-witness}
 use Rattle.session.specs.declared.Session.{Session}
 use Rattle.session.specs.Workers.{hasEnded, waitsOn}
 use Rattle.session_theory.proofs.Search.{Search, IsSearch, size, lead, isPart}

@@ -8,7 +8,7 @@ use native.Mathlib.Omega.{arith}
 use borrow.Author.Tests.{eq-eqb, ne-eqb}
 use lib.ListN.{length}
 use Rattle.book.specs.declared.Process.{Process}
-use Rattle.matrix.specs.Matrix.{pick}
+use Rattle.lists.specs.Pick.{pick}
 use Rattle.machine.specs.Flags.{someone}
 use Rattle.initiator.specs.declared.Initiator.{Initiator}
 use Rattle.session.specs.declared.Session.{Session}

@@ -9,8 +9,8 @@ use lib.ListN.{length}
 use lib.Dec.{eqb}
 use Rattle.book.specs.InTurn.{_then_, ask}
 use Rattle.book.specs.Check.{tablesQuestion}
-use Rattle.book.proofs.Tests.{both-and}
-use Rattle.message.specs.Formed.{isNamed, isPurpose}
+use Rattle.lists.proofs.Tests.{both-and}
+use Rattle.book.specs.Names.{isNamed, isPurpose}
 use Rattle.mail.specs.Outgoing.{bytesTo}
 use Rattle.exchange_laws.specs.Ends.{isSearch}
 use Rattle.strands.specs.Strands.{roomForAll, haveRoom}

@@ -5,8 +5,8 @@ use mathlib.Core.List.{List}
 use Prim.Native.Nat.{ℕ, _-_, _≤_, _<_}
 use native.Mathlib.Omega.{arith}
 use Rattle.book.specs.declared.Process.{Process}
-use Rattle.line_theory.proofs.Over.{sum-at}
-use Rattle.matrix.specs.Matrix.{pick}
+use Rattle.lists.proofs.Over.{sum-at}
+use Rattle.lists.specs.Pick.{pick}
 use Rattle.mail.specs.Outgoing.{goesTo}
 use Rattle.participant_laws.specs.Accepts.{endsIt}
 use Rattle.session.specs.declared.Session.{Session}

@@ -7,7 +7,7 @@ use Prim.Native.Nat.{ℕ, _≤_}
 use native.Mathlib.Omega.{arith}
 use lib.ListN.{length}
 use lib.Dec.{eqb}
-use Rattle.matrix.specs.Matrix.{pick}
+use Rattle.lists.specs.Pick.{pick}
 use Rattle.exchange_laws.specs.Ends.{isSearch}
 use Rattle.strands.specs.Strands.{slotSize}
 use Rattle.session.specs.declared.Session.{Session}

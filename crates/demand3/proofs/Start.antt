@@ -20,8 +20,8 @@ use Rattle.round_trips.proofs.ToTables.{length-countsOf}
 use Rattle.round_trips.proofs.Books.{Good}
 use Rattle.round_trips.proofs.Reading.{read-good, shape-left}
 use Rattle.round_trips.proofs.Theorems.{read-passes-check}
-use Rattle.matrix.specs.Matrix.{pick}
-use Rattle.message.specs.Formed.{isNamed, isPurpose}
+use Rattle.lists.specs.Pick.{pick}
+use Rattle.book.specs.Names.{isNamed, isPurpose}
 use Rattle.mail.specs.Outgoing.{bytesTo}
 use Rattle.machine.specs.Own.{Own}
 use Rattle.machine.specs.Flags.{someone, participants, nobody}

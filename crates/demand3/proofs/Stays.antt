@@ -9,11 +9,10 @@ use borrow.Author.Tests.{ne-eqb, eqb-true, eqb-false, not-true}
 use lib.ListN.{length}
 use lib.Dec.{eqb}
 use Rattle.book.specs.declared.Process.{Process}
-use Rattle.book.proofs.Tests.{and-both}
-use Rattle.line_theory.proofs.Over.{all-in}
-use Rattle.matrix.specs.Matrix.{pick}
+use Rattle.lists.proofs.Tests.{and-both, first-of-or}
+use Rattle.lists.proofs.Over.{all-in}
+use Rattle.lists.specs.Pick.{pick}
 use Rattle.machine.specs.Flags.{flag}
-use Rattle.machine_laws.proofs.Tests.{or-first}
 use Rattle.exchange_laws.specs.Ends.{isSearch}
 use Rattle.strands.specs.Strands.{lengthOn}
 use Rattle.session.specs.declared.Session.{Session}
@@ -57,7 +56,7 @@ module _ (g : Search) (is : IsSearch g) (s : Session) (box : ℕ → List ℕ) w
     more-awaited j other awaited last =
         let only : (not (flag (s .machine .awaited) k) || eqb k j) ≡ true =
         all-in 16 (λ q. not (flag (s .machine .awaited) q) || eqb q j) last k (part-within g is k there) in
-        true≢false (sym (or-first (not (flag (s .machine .awaited) k)) (eqb k j) only (ne-eqb k j other)) ∙ ap not awaited)
+        true≢false (sym (first-of-or (not (flag (s .machine .awaited) k)) (eqb k j) only (ne-eqb k j other)) ∙ ap not awaited)
 
     going-last : (phase : ℕ → Phase) (ahead : ℕ) → Waits g s box phase ahead → (j : ℕ) → (k ≡ j → ⊥)
         → isLast g s j (box j) ≡ false

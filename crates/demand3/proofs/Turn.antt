@@ -10,8 +10,8 @@ use Rattle.book.specs.declared.Process.{Process}
 use Rattle.book.specs.InTurn.{_then_, ask}
 use Rattle.book.specs.Check.{tablesQuestion}
 use Rattle.book.proofs.Questions.{ask-no, kept-passed, kept-refused}
-use Rattle.book.proofs.Tests.{and-both, both-and}
-use Rattle.message.specs.Formed.{isNamed}
+use Rattle.lists.proofs.Tests.{and-both, both-and}
+use Rattle.book.specs.Names.{isNamed}
 use Rattle.machine.specs.Named.{participantNamed}
 use Rattle.strands.specs.Strands.{haveRoom, posted}
 use Rattle.session.specs.declared.Session.{Session}

@@ -14,7 +14,7 @@ use Rattle.machine.specs.Own.{Own}
 use Rattle.machine.specs.Sends.{isTermination}
 use Rattle.machine.specs.Named.{isParticipant}
 use Rattle.machine.specs.Flags.{flag, someone}
-use Rattle.machine_laws.proofs.Tests.{or-second}
+use Rattle.lists.proofs.Tests.{second-of-or}
 use Rattle.machine_laws.proofs.Flags.{some-flagged}
 use Rattle.participant.specs.declared.Participant.{Participant}
 use Rattle.participant.specs.Step.{stepBack, reportOf, step}
@@ -105,7 +105,7 @@ module _
     somebody =
         let fit : Fit (ownIn g (lead g)) (s .machine) = fits-in (ownIn g (lead g)) (s .machine) (w .placed .machine-fits) in
         let awaited : List Bool = s .machine .awaited in
-        let some : someone awaited ≡ true = or-second (s .machine .ended) (someone awaited) (fit .waits) (w .waiting) in
+        let some : someone awaited ≡ true = second-of-or (s .machine .ended) (someone awaited) (fit .waits) (w .waiting) in
         let found = some-flagged awaited some in
         let k : ℕ = found .0 in
         let there : isPart g k ≡ true = part k (fit .only k (found .1) (found .2)) in

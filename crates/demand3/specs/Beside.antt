@@ -9,7 +9,7 @@ use lib.ListN.{length}
 use Rattle.book.specs.declared.Process.{Process}
 use Rattle.book.specs.Read.{readQuestion}
 use Rattle.line_theory.specs.Search.{line}
-use Rattle.message.specs.Formed.{isNamed, isPurpose}
+use Rattle.book.specs.Names.{isNamed, isPurpose}
 use Rattle.machine.specs.Named.{isParticipant}
 use Rattle.strands.specs.Strands.{roomForAll}
 use Rattle.session.specs.Workers.{standsOn, hasEnded, waitsOn}

@@ -11,11 +11,11 @@ use Rattle.book.specs.declared.Shape.{Shape}
 use Rattle.book.specs.declared.Process.{Process}
 use Rattle.book.specs.Bounds.{mostProcesses}
 use Rattle.book.specs.Read.{readQuestion, shapeRead, sentRead, receivedRead}
-use Rattle.line_theory.specs.Over.{allTo}
+use Rattle.lists.specs.Over.{allTo}
 use Rattle.line_theory.specs.Sets.{View, IsSet, Consistent}
 use Rattle.line_theory.specs.Search.{line, passed}
 use Rattle.line_theory.specs.OfTables.{viewOf}
-use Rattle.matrix.specs.Matrix.{pick}
+use Rattle.lists.specs.Pick.{pick}
 use Rattle.machine.specs.Flags.{someone}
 use Rattle.strands.specs.Strands.{roomForAll}
 use Rattle.session.specs.declared.Session.{Session}

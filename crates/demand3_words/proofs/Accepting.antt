@@ -10,7 +10,7 @@ use Rattle.book.specs.InTurn.{ask}
 use Rattle.book.specs.Check.{tablesQuestion}
 use Rattle.book.specs.Read.{readQuestion}
 use Rattle.book.proofs.Questions.{then-both, ask-yes}
-use Rattle.book.proofs.Tests.{both-and}
+use Rattle.lists.proofs.Tests.{both-and}
 use Rattle.session.specs.Calls.{startQuestion}
 use Rattle.words.specs.Words.{shapeLength, setLength, sessionLength, wrongLength, isLong}
 use Rattle.words.specs.Plain.{shapeIn}

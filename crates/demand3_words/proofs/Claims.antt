@@ -10,7 +10,7 @@ use Rattle.book.specs.declared.Process.{Process}
 use Rattle.line_theory.specs.Sets.{View, IsSet, Consistent}
 use Rattle.line_theory.specs.Search.{line, passed}
 use Rattle.line_theory.proofs.Accepted.{accepted-size}
-use Rattle.matrix.specs.Matrix.{pick}
+use Rattle.lists.specs.Pick.{pick}
 use Rattle.message.proofs.Heads.{named-in}
 use Rattle.machine.specs.Flags.{someone}
 use Rattle.strands.specs.Strands.{roomForAll}

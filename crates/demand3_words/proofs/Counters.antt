@@ -7,9 +7,10 @@ use native.Mathlib.Omega.{arith}
 use lib.Dec.{eqb}
 use Rattle.book.specs.declared.Count.{Count}
 use Rattle.book.specs.Bounds.{mark}
-use Rattle.line_theory.proofs.Over.{length-tab, getD-tab}
+use Rattle.lists.proofs.Over.{length-tab, getD-tab}
 use Rattle.consistency.specs.Known.{counters}
-use Rattle.matrix.specs.Matrix.{pick, asRow, asMatrix, entry, withRow, isPair, notKnownAt, notKnownRow, notKnownMatrix}
+use Rattle.lists.specs.Pick.{pick}
+use Rattle.matrix.specs.Matrix.{asRow, asMatrix, entry, withRow, isPair, notKnownAt, notKnownRow, notKnownMatrix}
 use Rattle.matrix.specs.Entries.{patch, allLower}
 use Rattle.matrix.proofs.Rows.{row-length, counter-of-row}
 use Rattle.matrix.proofs.Theorems.{patch-not-raised}

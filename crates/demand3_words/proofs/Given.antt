@@ -12,11 +12,11 @@ use Rattle.book.proofs.Questions.{then-none, asked-yes, kept-passed}
 use Rattle.line_theory.specs.Sets.{newerThan}
 use Rattle.line_theory.specs.Search.{line}
 use Rattle.line_theory.specs.OfTables.{viewOf}
-use Rattle.line_theory.proofs.Over.{length-tab, getD-tab}
+use Rattle.lists.proofs.Over.{length-tab, getD-tab}
 use Rattle.consistency.specs.Set.{chosen}
 use Rattle.finder.specs.Line.{checkpoints, noLine, lineFound, passedFound}
 use Rattle.finder.proofs.Sixteen.{chosen-there}
-use Rattle.message.specs.Formed.{isNamed, isPurpose}
+use Rattle.book.specs.Names.{isNamed, isPurpose}
 use Rattle.session.specs.declared.Session.{Session}
 use Rattle.session.specs.Steps.{begun, withPosted}
 use Rattle.session.specs.Calls.{noSession, startQuestion, sessionStarted}

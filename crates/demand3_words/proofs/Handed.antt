@@ -8,9 +8,9 @@ use lib.ListN.{length}
 use lib.Dec.{eqb}
 use Rattle.book.specs.InTurn.{ask, unlessRefused}
 use Rattle.book.proofs.Questions.{then-passed, ask-yes}
-use Rattle.book.proofs.Tests.{both-and}
-use Rattle.line_theory.proofs.Over.{length-tab}
-use Rattle.matrix.specs.Matrix.{pick}
+use Rattle.lists.proofs.Tests.{both-and}
+use Rattle.lists.proofs.Over.{length-tab}
+use Rattle.lists.specs.Pick.{pick}
 use Rattle.strands.specs.Strands.{posted}
 use Rattle.session.specs.declared.Session.{Session}
 use Rattle.session.specs.declared.Turned.{Turned}

@@ -13,8 +13,9 @@ use Rattle.book.specs.declared.Shape.{Shape}
 use Rattle.book.specs.declared.Process.{Process}
 use Rattle.book.specs.Bounds.{mostProcesses}
 use Rattle.book.specs.InTurn.{unlessRefused}
-use Rattle.line_theory.proofs.Over.{length-tab, getD-tab}
-use Rattle.matrix.specs.Matrix.{pick, row}
+use Rattle.lists.proofs.Over.{length-tab, getD-tab}
+use Rattle.lists.specs.Pick.{pick}
+use Rattle.matrix.specs.Matrix.{row}
 use Rattle.matrix.specs.Entries.{allLower}
 use Rattle.message.specs.declared.Message.{Message}
 use Rattle.message.specs.Formed.{messageFormed}

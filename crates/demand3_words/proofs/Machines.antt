@@ -8,7 +8,7 @@ use lib.ListN.{length}
 use lib.Dec.{eqb}
 use Rattle.book.specs.declared.Count.{Count}
 use Rattle.book.specs.declared.Process.{Process}
-use Rattle.line_theory.proofs.Over.{length-tab}
+use Rattle.lists.proofs.Over.{length-tab}
 use Rattle.matrix.specs.Matrix.{row, column, withRow, notKnownMatrix}
 use Rattle.matrix.specs.Entries.{patch, allLower}
 use Rattle.message.specs.declared.Message.{Message}

@@ -14,9 +14,9 @@ use Rattle.book.specs.Bounds.{mostProcesses}
 use Rattle.book.specs.Check.{tablesQuestion}
 use Rattle.book.specs.View.{firstRows}
 use Rattle.book.proofs.Questions.{then-none}
-use Rattle.book.proofs.Tests.{and-both}
-use Rattle.line_theory.specs.Over.{allTo}
-use Rattle.line_theory.proofs.Over.{all-in}
+use Rattle.lists.proofs.Tests.{and-both}
+use Rattle.lists.specs.Over.{allTo}
+use Rattle.lists.proofs.Over.{all-in}
 use Rattle.line_theory.proofs.Accepted.{accepted-size}
 use Rattle.machine.specs.Own.{ownOf}
 use Rattle.machine.specs.Named.{participantNamed, isParticipant, countLimit}

@@ -7,7 +7,7 @@ use native.Mathlib.Decide.{ℕ-discrete}
 use native.Mathlib.Omega.{arith}
 use borrow.Author.Tests.{eq-eqb, ne-eqb}
 use lib.Dec.{eqb}
-use Rattle.matrix.specs.Matrix.{pick}
+use Rattle.lists.specs.Pick.{pick}
 use Rattle.machine.specs.Flags.{flag, someone}
 use Rattle.machine_laws.proofs.Newest.{all-ext}
 use Rattle.participant.specs.declared.Stage.{Stage}

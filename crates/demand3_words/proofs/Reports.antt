@@ -10,8 +10,8 @@ use lib.Dec.{eqb}
 use Rattle.varint.specs.Sequence.{scan, numbersAt}
 use Rattle.book.specs.declared.Process.{Process}
 use Rattle.book.specs.Bounds.{mostProcesses}
-use Rattle.line_theory.specs.Over.{allTo}
-use Rattle.matrix.specs.Matrix.{pick}
+use Rattle.lists.specs.Over.{allTo}
+use Rattle.lists.specs.Pick.{pick}
 use Rattle.machine.specs.Flags.{flag, someone}
 use Rattle.machine_laws.proofs.Newest.{all-ext}
 use Rattle.participant.specs.Calls as participant

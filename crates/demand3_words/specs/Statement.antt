@@ -11,7 +11,7 @@ use lib.ListN.{length}
 use Rattle.book.specs.Bounds.{mostProcesses}
 use Rattle.line_theory.specs.Sets.{View, IsSet, Consistent}
 use Rattle.line_theory.specs.OfTables.{viewOf}
-use Rattle.matrix.specs.Matrix.{pick}
+use Rattle.lists.specs.Pick.{pick}
 use Rattle.strands.specs.Strands.{roomForAll}
 use Rattle.words.specs.Words.{word}
 use Rattle.words.specs.Plain.{shapeIn}

@@ -8,11 +8,11 @@ use borrow.Author.Tests.{eqb-true}
 use lib.Dec.{eqb}
 use Rattle.book.specs.declared.Shape.{Shape}
 use Rattle.book.specs.declared.Checkpoint.{Checkpoint}
-use Rattle.book.proofs.Tests.{and-both}
-use Rattle.line_theory.specs.Over.{allTo}
+use Rattle.lists.proofs.Tests.{and-both}
+use Rattle.lists.specs.Over.{allTo}
 use Rattle.line_theory.specs.Sets.{View, atFault, consistent}
 use Rattle.line_theory.specs.OfTables.{viewOf}
-use Rattle.line_theory.proofs.Over.{all-in}
+use Rattle.lists.proofs.Over.{all-in}
 use Rattle.consistency.specs.declared.SetAnswer.{SetAnswer}
 use Rattle.consistency.specs.declared.SetAnswer.the-variants.{Consistent, AtFault, Refused}
 use Rattle.consistency.specs.Set.{chosen, testQuestion, IsAtFault, Tested}

@@ -10,10 +10,11 @@ use borrow.Author.Tests.{lt-ltb, le-ltb, eq-eqb, ne-eqb}
 use lib.Dec.{ltb}
 use Rattle.book.specs.declared.Count.{Count}
 use Rattle.book.specs.Bounds.{mark}
-use Rattle.line_theory.specs.Over.{sumTo}
-use Rattle.line_theory.proofs.Over.{sum-ext, sum-at, sum-less}
+use Rattle.lists.specs.Over.{sumTo}
+use Rattle.lists.proofs.Over.{sum-ext, sum-at, sum-less}
 use Rattle.consistency.specs.Known.{counters}
-use Rattle.matrix.specs.Matrix.{pick, isPair}
+use Rattle.lists.specs.Pick.{pick}
+use Rattle.matrix.specs.Matrix.{isPair}
 use Rattle.matrix.specs.Entries.{isNews}
 use Rattle.message.specs.Layout.{pairCount}
 use Rattle.machine_laws.proofs.Pairs.{is-pair, absent-no-pair, self-no-pair}

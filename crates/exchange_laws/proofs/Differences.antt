@@ -9,7 +9,7 @@ use borrow.Author.Tests.{eq-eqb, ne-eqb}
 use lib.ListN.{length}
 use Rattle.book.specs.declared.Count.{Count}
 use Rattle.book.specs.Bounds.{mark}
-use Rattle.line_theory.proofs.Over.{all-in, all-out}
+use Rattle.lists.proofs.Over.{all-in, all-out}
 use Rattle.consistency.specs.Known.{counters}
 use Rattle.matrix.specs.Matrix.{isPair, notKnownRow}
 use Rattle.matrix.specs.Entries.{isNews, differing, changed, diff, patch, allLower}

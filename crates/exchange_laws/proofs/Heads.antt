@@ -4,8 +4,9 @@ use mathlib.Core.Bool.{true, false, not, or-true}
 use Prim.Native.Nat.{ℕ}
 use borrow.Author.Tests.{not-true}
 use lib.Dec.{eqb}
-use Rattle.book.proofs.Tests.{and-both}
-use Rattle.message.specs.Formed.{isPurpose, isNamed, headFormed}
+use Rattle.lists.proofs.Tests.{and-both}
+use Rattle.book.specs.Names.{isPurpose, isNamed}
+use Rattle.message.specs.Formed.{headFormed}
 use Rattle.machine_laws.proofs.Messages.{head-out}
 use Rattle.exchange_laws.specs.Ends.{isSearch}
 

@@ -9,9 +9,10 @@ use lib.Dec.{eqb}
 use Rattle.book.specs.declared.Count.{Count}
 use Rattle.book.specs.declared.Process.{Process}
 use Rattle.book.specs.Bounds.{mark}
-use Rattle.book.proofs.Tests.{both-and}
+use Rattle.lists.proofs.Tests.{both-and}
 use Rattle.consistency.specs.Known.{counters}
-use Rattle.matrix.specs.Matrix.{pick, row, column, notKnownRow}
+use Rattle.lists.specs.Pick.{pick}
+use Rattle.matrix.specs.Matrix.{row, column, notKnownRow}
 use Rattle.matrix.specs.Entries.{isNews, diff, patch, allLower}
 use Rattle.matrix.specs.Statements.{Fallen}
 use Rattle.message.specs.declared.Message.{Message}

@@ -17,7 +17,7 @@ use Rattle.machine.specs.Named.{participantNamed}
 use Rattle.machine.specs.Flags.{flag}
 use Rattle.machine_laws.proofs.Messages.{end-of-reader, end-of-sender}
 use Rattle.machine_laws.proofs.Calls.{yes-three}
-use Rattle.machine_laws.proofs.Tests.{or-out}
+use Rattle.lists.proofs.Tests.{or-unless}
 use Rattle.participant.specs.declared.Participant.{Participant}
 use Rattle.participant.specs.Step as participant
 use Rattle.participant.specs.Calls as participant-calls
@@ -70,7 +70,7 @@ module _ (n : ℕ) (receiver : Initiator) (m : Message) where
   awaited-up waits flagged purpose kind first =
       let unknown : Bool = same (row (receiver .matrix) (initiator.senderOf m)) (notKnownRow (receiver .n) (initiator.senderOf m)) in
       rw (waits, flagged, eq-eqb (m .head .purpose) (receiver .purpose) purpose, eq-eqb (m .head .kind) 2 kind)
-      (or-out (not unknown) (eqb (pairCount (m .news)) (receiver .n - 1))
+      (or-unless (not unknown) (eqb (pairCount (m .news)) (receiver .n - 1))
       (λ e. eq-eqb (pairCount (m .news)) (receiver .n - 1) (first (not-false unknown e))))
 
   pub passes-up : (out : Outgoing) → n ≤ 16 → messageUp out receiver ≡ m → goesTo out (receiver .me .0 - 1) ≡ true

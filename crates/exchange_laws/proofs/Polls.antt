@@ -7,8 +7,8 @@ use native.Mathlib.Omega.{arith}
 use borrow.Author.Tests.{eqb-false, eq-eqb, ne-eqb, not-true}
 use lib.Dec.{eqb}
 use Rattle.book.specs.declared.Count.{Count}
-use Rattle.book.proofs.Tests.{and-both}
-use Rattle.line_theory.proofs.Over.{getD-tab, all-witness}
+use Rattle.lists.proofs.Tests.{and-both}
+use Rattle.lists.proofs.Over.{getD-tab, all-witness}
 use Rattle.consistency.specs.Known.{counters}
 use Rattle.matrix.specs.Matrix.{row, column}
 use Rattle.matrix.specs.Entries.{diff, patch, same, allLower}

@@ -7,15 +7,16 @@ use borrow.Author.Tests.{eqb-false, lt-ltb, ne-eqb}
 use lib.Dec.{eqb}
 use Rattle.book.specs.declared.Process.{Process}
 use Rattle.book.specs.Bounds.{mark}
-use Rattle.book.proofs.Tests.{and-both}
-use Rattle.line_theory.proofs.Over.{getD-tab}
+use Rattle.lists.proofs.Tests.{and-both}
+use Rattle.lists.proofs.Over.{getD-tab}
 use Rattle.consistency.specs.Known.{counters}
 use Rattle.matrix.specs.Matrix.{entry, row}
 use Rattle.matrix.specs.Entries.{patch}
 use Rattle.matrix.proofs.Rows.{row-length, entry-of-matrix}
 use Rattle.message.specs.declared.Message.{Message}
 use Rattle.message.specs.declared.Head.{Head}
-use Rattle.message.specs.Formed.{isNamed, headFormed, invitationFormed}
+use Rattle.book.specs.Names.{isNamed}
+use Rattle.message.specs.Formed.{headFormed, invitationFormed}
 use Rattle.mail.specs.declared.Outgoing.{Outgoing}
 use Rattle.machine.specs.Own.{Own}
 use Rattle.machine.specs.Named.{isParticipant}

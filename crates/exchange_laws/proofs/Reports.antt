@@ -8,7 +8,7 @@ use borrow.Author.Tests.{eq-eqb, eqb-false}
 use lib.Dec.{eqb}
 use Rattle.book.specs.declared.Count.{Count}
 use Rattle.book.specs.Bounds.{mark}
-use Rattle.book.proofs.Tests.{and-both, both-and}
+use Rattle.lists.proofs.Tests.{and-both, both-and, none-of-or}
 use Rattle.consistency.specs.Known.{counters}
 use Rattle.matrix.specs.Matrix.{row, column, notKnownRow}
 use Rattle.matrix.specs.Entries.{diff, patch, same}
@@ -17,13 +17,13 @@ use Rattle.matrix.proofs.Theorems.{row-with-row, other-rows, same-is-same}
 use Rattle.message.specs.declared.Head.{Head}
 use Rattle.message.specs.declared.Message.{Message}
 use Rattle.message.specs.Layout.{pairCount}
-use Rattle.message.specs.Formed.{isPurpose, isNamed, invitationFormed}
+use Rattle.book.specs.Names.{isPurpose, isNamed}
+use Rattle.message.specs.Formed.{invitationFormed}
 use Rattle.message_laws.specs.Formed.{IsFormed}
 use Rattle.mail.specs.declared.Outgoing.{Outgoing}
 use Rattle.mail.specs.Outgoing.{goesTo, messageTo}
 use Rattle.machine.specs.Own.{Own, sentRow, newestPermitted}
 use Rattle.machine.specs.Sends.{otherHead, onlyTo, isTermination}
-use Rattle.machine_laws.proofs.Tests.{or-neither}
 use Rattle.machine_laws.proofs.Rows.{sent-at, rest-in}
 use Rattle.participant.specs.declared.Participant.{Participant}
 use Rattle.participant.specs.declared.ParticipantStep.{ParticipantStep}
@@ -111,7 +111,7 @@ module _ (own : Own) (sender : Participant) (m : Message) (receiver : Initiator)
 
   searches : isSearch (sender .purpose) ≡ true
   searches =
-      let other : eqb (m .head .purpose) 2 ≡ false = or-neither (eqb (m .head .purpose) 2) (isTermination m) going in
+      let other : eqb (m .head .purpose) 2 ≡ false = none-of-or (eqb (m .head .purpose) 2) (isTermination m) going in
       both-and (isPurpose (sender .purpose)) (not (eqb (sender .purpose) 2)) (accepts .purpose)
       (ap not (subst (λ (v : ℕ). eqb v 2 ≡ false) (same-purpose own sender m accepts) other))
 

@@ -12,7 +12,7 @@ use Rattle.matrix.specs.Matrix.{row, column, notKnownRow}
 use Rattle.matrix.specs.Entries.{restZero}
 use Rattle.message.specs.declared.Message.{Message}
 use Rattle.message.specs.Layout.{messageBytes}
-use Rattle.message.specs.Formed.{isPurpose}
+use Rattle.book.specs.Names.{isPurpose}
 use Rattle.mail.specs.declared.Outgoing.{Outgoing}
 use Rattle.mail.specs.Outgoing.{goesTo, messageTo}
 use Rattle.machine.specs.Own.{Own}

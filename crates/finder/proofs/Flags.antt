@@ -9,8 +9,7 @@ use lib.ListN.{length, set, length-set}
 use Rattle.line_theory.specs.Sets.{View, receivedMore}
 use Rattle.line_theory.specs.Search.{sentTo}
 use Rattle.line_theory.proofs.Tests.{permitted-out, refused-by}
-use Rattle.book.proofs.Loops.{below-more}
-use Rattle.consistency.proofs.Fills.{fill-more, fill-rest}
+use Rattle.lists.proofs.Fills.{below-more, fill-more, fill-rest}
 use Rattle.finder.specs.Steps.{mustStepBack, flagged}
 
 -- ---- whether one must step back, partner by partner

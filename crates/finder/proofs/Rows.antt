@@ -12,7 +12,7 @@ use Rattle.book.specs.declared.TableRows.{TableRows}
 use Rattle.book.specs.View.{firstRow, counterAt}
 use Rattle.book.proofs.Sums.{row-within}
 use Rattle.book.proofs.Starts.{placed-first}
-use Rattle.line_theory.specs.Over.{allTo}
+use Rattle.lists.specs.Over.{allTo}
 use Rattle.line_theory.specs.Sets.{View, receivedMore}
 use Rattle.line_theory.specs.Search.{permitted, sentTo}
 use Rattle.line_theory.specs.OfTables.{viewOf}

@@ -7,8 +7,8 @@ use native.Mathlib.Omega.{arith}
 use lib.ListN.{length, getD, length-replicate, getD-replicate, List·getD-eq-default}
 use lib.Seq.{ext-getD}
 use Rattle.book.specs.declared.Checkpoint.{Checkpoint}
-use Rattle.line_theory.specs.Over.{tab}
-use Rattle.line_theory.proofs.Over.{length-tab, getD-tab}
+use Rattle.lists.specs.Over.{tab}
+use Rattle.lists.proofs.Over.{length-tab, getD-tab}
 use Rattle.consistency.specs.Set.{chosen}
 use Rattle.finder.specs.Line.{checkpoints, noLine}
 

@@ -13,11 +13,11 @@ use Rattle.book.specs.Bounds.{mark}
 use Rattle.book.specs.View.{sum, count}
 use Rattle.book.specs.Fits.{Placed}
 use Rattle.book.proofs.Sums.{sum-more, sum-take}
-use Rattle.line_theory.specs.Over.{sumTo}
+use Rattle.lists.specs.Over.{sumTo}
 use Rattle.line_theory.specs.Sets.{View, IsBook, newerThan, cut}
 use Rattle.line_theory.specs.Search.{line}
 use Rattle.line_theory.specs.OfTables.{viewOf}
-use Rattle.line_theory.proofs.Over.{sum-le, sum-at}
+use Rattle.lists.proofs.Over.{sum-le, sum-at}
 use Rattle.line_theory.proofs.Line.{line-absent, cut-is-book}
 use Rattle.line_theory.proofs.StepsBack.{Searching, begun, step-some, stepped-back, ended}
 use Rattle.consistency.specs.Set.{chosen}

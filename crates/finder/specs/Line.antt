@@ -9,7 +9,7 @@ use Rattle.book.specs.declared.Checkpoint.{Checkpoint}
 use Rattle.book.specs.Bounds.{mostProcesses}
 use Rattle.book.specs.InTurn.{unlessRefused}
 use Rattle.book.specs.Check.{tablesQuestion}
-use Rattle.line_theory.specs.Over.{tab}
+use Rattle.lists.specs.Over.{tab}
 use Rattle.line_theory.specs.Sets.{View}
 use Rattle.line_theory.specs.Search.{line, passed}
 use Rattle.line_theory.specs.OfTables.{viewOf}

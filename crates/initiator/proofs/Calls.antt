@@ -12,11 +12,13 @@ use Rattle.book.specs.declared.TableRows.{TableRows}
 use Rattle.book.specs.InTurn.{_then_, ask, answerTo}
 use Rattle.book.specs.Check.{tablesQuestion}
 use Rattle.book.proofs.Questions.{then-passed, then-none, then-assoc, asked-yes, ask-yes}
-use Rattle.book.proofs.Tests.{and-both}
-use Rattle.matrix.specs.Matrix.{pick, row}
+use Rattle.lists.proofs.Tests.{and-both}
+use Rattle.lists.specs.Pick.{pick}
+use Rattle.matrix.specs.Matrix.{row}
 use Rattle.matrix.specs.Entries.{allLower}
 use Rattle.message.specs.declared.Message.{Message}
-use Rattle.message.specs.Formed.{isNamed, isPurpose, beginFormed, numbersFormed, numbersIn, messageOf, messageFormed}
+use Rattle.book.specs.Names.{isNamed, isPurpose}
+use Rattle.message.specs.Formed.{beginFormed, numbersFormed, numbersIn, messageOf, messageFormed}
 use Rattle.message.specs.Read.{noMessage, messageRead}
 use Rattle.message.proofs.Messages.{head-sender}
 use Rattle.message.proofs.Heads.{named-in}

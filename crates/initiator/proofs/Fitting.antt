@@ -7,11 +7,10 @@ use Prim.Native.Nat.{ℕ, _-_, _≤_, _<_}
 use borrow.Author.Tests.{ltb-true, eqb-true, eq-eqb, ne-eqb, le-leb, lt-leb}
 use lib.Dec.{eqb, leb, ltb}
 use Rattle.book.specs.declared.Count.{Count}
-use Rattle.book.proofs.Tests.{and-both, both-and}
+use Rattle.lists.proofs.Tests.{and-both, both-and, and-first, and-second, and-rest}
 use Rattle.matrix.specs.Matrix.{row, column}
 use Rattle.matrix.specs.Entries.{same}
 use Rattle.matrix.specs.Whole.{allNoneAbove}
-use Rattle.message.proofs.Tests.{and-first, and-second, and-rest}
 use Rattle.machine.specs.Own.{Own, hasCheckpoint, sentRow, newestPermitted}
 use Rattle.machine.specs.Named.{countLimit}
 use Rattle.machine.specs.Flags.{someone}

@@ -3,8 +3,8 @@ use mathlib.Core.Path.{_≡_, refl, sym, ap, _∙_}
 use mathlib.Core.Bool.{Bool, true, false, _&&_}
 use mathlib.Core.List.{List}
 use Prim.Native.Nat.{ℕ, _-_}
-use Rattle.line_theory.specs.Over.{tab}
-use Rattle.line_theory.proofs.Over.{tab-same}
+use Rattle.lists.specs.Over.{tab}
+use Rattle.lists.proofs.Over.{tab-same}
 use Rattle.matrix.specs.Whole.{columnsDiffer}
 use Rattle.matrix.proofs.Sweep.{differs-at}
 use Rattle.machine.specs.Named.{isParticipant}

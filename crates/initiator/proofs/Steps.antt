@@ -6,7 +6,8 @@ use Prim.Native.Nat.{ℕ, _-_, _≤_, _<_}
 use Rattle.book.specs.declared.Checkpoint.{Checkpoint}
 use Rattle.book.specs.declared.Count.{Count}
 use Rattle.book.specs.declared.Process.{Process}
-use Rattle.matrix.specs.Matrix.{pick, column, withRow, notKnownMatrix}
+use Rattle.lists.specs.Pick.{pick}
+use Rattle.matrix.specs.Matrix.{column, withRow, notKnownMatrix}
 use Rattle.matrix.specs.Whole.{invitations}
 use Rattle.message.specs.declared.Message.{Message}
 use Rattle.machine.specs.Own.{Own, sentRow, newestPermitted}

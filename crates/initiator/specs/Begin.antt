@@ -5,7 +5,8 @@ use Prim.Native.Nat.{ℕ, _+_, _-_}
 use lib.Dec.{eqb}
 use Rattle.book.specs.declared.Count.{Count}
 use Rattle.book.specs.declared.Process.{Process}
-use Rattle.matrix.specs.Matrix.{pick, withRow, notKnownMatrix}
+use Rattle.lists.specs.Pick.{pick}
+use Rattle.matrix.specs.Matrix.{withRow, notKnownMatrix}
 use Rattle.matrix.specs.Whole.{invitations}
 use Rattle.machine.specs.Own.{Own, sentRow}
 use Rattle.machine.specs.Sends.{invitationHead, noPairs}

@@ -4,7 +4,8 @@ use mathlib.Core.List.{List}
 use Prim.Native.Nat.{_-_}
 use lib.Dec.{ltb, eqb}
 use Rattle.book.specs.declared.Count.{Count}
-use Rattle.matrix.specs.Matrix.{pick, row, column}
+use Rattle.lists.specs.Pick.{pick}
+use Rattle.matrix.specs.Matrix.{row, column}
 use Rattle.matrix.specs.Entries.{same}
 use Rattle.matrix.specs.Whole.{allRestZero, allNotKnown, allNoneAbove}
 use Rattle.machine.specs.Own.{Own, hasCheckpoint, sentRow, newestPermitted}

@@ -4,8 +4,9 @@ use mathlib.Core.List.{List}
 use Prim.Native.Nat.{ℕ, _-_}
 use lib.Dec.{eqb}
 use Rattle.book.specs.Bounds.{mostProcesses}
-use Rattle.line_theory.specs.Over.{tab}
-use Rattle.matrix.specs.Matrix.{pick, row, column, withRow, notKnownRow}
+use Rattle.lists.specs.Over.{tab}
+use Rattle.lists.specs.Pick.{pick}
+use Rattle.matrix.specs.Matrix.{row, column, withRow, notKnownRow}
 use Rattle.matrix.specs.Entries.{patch, same}
 use Rattle.matrix.specs.Whole.{polls}
 use Rattle.message.specs.declared.Message.{Message}

@@ -16,9 +16,10 @@ ghost use mathlib.Core.Path.{_≡_};
 ghost use Prim.Native.Nat.{_-_, _≤_, _<_};
 ghost use Rattle.book.specs.Check.{tablesQuestion};
 ghost use Rattle.book.specs.InTurn.{_then_, ask, answerTo};
-ghost use Rattle.matrix.specs.Matrix.{pick, row};
+ghost use Rattle.lists.specs.Pick.{pick};
+ghost use Rattle.matrix.specs.Matrix.{row};
 ghost use Rattle.matrix.specs.Entries.{allLower};
-ghost use Rattle.message.specs.Formed.{isNamed, isPurpose};
+ghost use Rattle.book.specs.Names.{isNamed, isPurpose};
 ghost use Rattle.mail.specs.Outgoing.{noLengths};
 ghost use Rattle.machine.specs.Own.{ownOf};
 ghost use Rattle.machine.specs.Named.{countLimit};
@@ -177,10 +178,10 @@ impl Initiator {
         ensures { λ r. ⌜ r ≡ stateQuestion (shape .n) (ownOf shape (now (sent .entry)) (now (received .entry)) (self .me .0 - 1)) self ⌝ }
     {
         let me = self.me;
-        if !message::is_named(shape.n, me.0) {
+        if !book::is_named(shape.n, me.0) {
             return 10;
         }
-        if !message::is_purpose(self.purpose) {
+        if !book::is_purpose(self.purpose) {
             return 11;
         }
         let rows = book::rows_of(shape);
@@ -316,10 +317,10 @@ impl Initiator {
 pub fn begin_question(n: usize, me: Process, purpose: u64) -> u32
     ensures { λ r. ⌜ r ≡ (ask 10 (isNamed n (me .0)) then λ _. ask 11 (isPurpose purpose)) ⌝ }
 {
-    if !message::is_named(n, me.0) {
+    if !book::is_named(n, me.0) {
         return 10;
     }
-    if !message::is_purpose(purpose) {
+    if !book::is_purpose(purpose) {
         return 11;
     }
     0

@@ -8,11 +8,12 @@ use lib.Dec.{eqb}
 use Rattle.book.specs.declared.Count.{Count}
 use Rattle.book.specs.declared.Process.{Process}
 use Rattle.book.specs.Bounds.{mark}
-use Rattle.line_theory.proofs.Over.{getD-tab}
+use Rattle.lists.proofs.Over.{getD-tab}
 use Rattle.line_theory.proofs.Tests.{permitted-out}
 use Rattle.consistency.specs.Known.{counters}
 use Rattle.consistency.proofs.Permits.{newest-here}
-use Rattle.matrix.specs.Matrix.{pick, entry, column, withRow, isPair, notKnownAt, notKnownMatrix}
+use Rattle.lists.specs.Pick.{pick}
+use Rattle.matrix.specs.Matrix.{entry, column, withRow, isPair, notKnownAt, notKnownMatrix}
 use Rattle.matrix.proofs.Theorems.{entry-with-row}
 use Rattle.machine.specs.Own.{Own, sentRow, newestPermitted}
 use Rattle.machine.specs.Named.{isParticipant, countLimit}

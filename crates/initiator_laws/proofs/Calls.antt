@@ -12,7 +12,8 @@ use Rattle.line_theory.proofs.Accepted.{accepted-size}
 use Rattle.matrix.specs.Matrix.{row}
 use Rattle.matrix.specs.Entries.{allLower}
 use Rattle.message.specs.declared.Message.{Message}
-use Rattle.message.specs.Formed.{isNamed, isPurpose, messageFormed}
+use Rattle.book.specs.Names.{isNamed, isPurpose}
+use Rattle.message.specs.Formed.{messageFormed}
 use Rattle.message_laws.specs.Formed.{IsFormed}
 use Rattle.message_laws.proofs.Theorems.{read-is-formed}
 use Rattle.machine.specs.Own.{Own, ownOf}

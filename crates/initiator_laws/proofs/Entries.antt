@@ -7,9 +7,10 @@ use native.Mathlib.Decide.{ℕ-discrete}
 use borrow.Author.Tests.{leb-true, le-leb, eq-eqb, ne-eqb}
 use lib.Dec.{leb}
 use Rattle.book.specs.declared.Count.{Count}
-use Rattle.line_theory.proofs.Over.{all-in, all-out}
+use Rattle.lists.proofs.Over.{all-in, all-out}
 use Rattle.consistency.specs.Known.{counters}
-use Rattle.matrix.specs.Matrix.{pick, entry, row, column, withRow, isPair, notKnownAt, notKnownRow}
+use Rattle.lists.specs.Pick.{pick}
+use Rattle.matrix.specs.Matrix.{entry, row, column, withRow, isPair, notKnownAt, notKnownRow}
 use Rattle.matrix.specs.Entries.{same, restZero, noneAbove}
 use Rattle.matrix.specs.Whole.{allRestZero, allNotKnown, allNoneAbove}
 use Rattle.matrix.proofs.Rows.{counter-of-row}
@@ -17,7 +18,7 @@ use Rattle.matrix.proofs.Theorems.{entry-with-row, same-is-same}
 use Rattle.machine.specs.Named.{isParticipant}
 use Rattle.machine.specs.Flags.{flag, onlyParticipants}
 use Rattle.machine_laws.proofs.Rows.{row-ext, row-at, rest-in, rest-out}
-use Rattle.machine_laws.proofs.Tests.{or-second}
+use Rattle.lists.proofs.Tests.{second-of-or}
 
 -- ---- tests of a matrix
 
@@ -75,7 +76,7 @@ onlyHere n me flags p = not (flag flags p) || isParticipant n me p
 pub only-in : (n me : ℕ) (flags : List Bool) → onlyParticipants n me flags ≡ true → Only n me flags
 unfolding onlyParticipants
 only-in n me flags h p i e =
-    or-second (not (flag flags p)) (isParticipant n me p) (all-in 16 (onlyHere n me flags) h p i) (ap not e)
+    second-of-or (not (flag flags p)) (isParticipant n me p) (all-in 16 (onlyHere n me flags) h p i) (ap not e)
 
 pub only-out : (n me : ℕ) (flags : List Bool) → Only n me flags → onlyParticipants n me flags ≡ true
 unfolding onlyParticipants

@@ -6,8 +6,9 @@ use Prim.Native.Nat.{ℕ, _-_, _≤_, _<_}
 use borrow.Author.Tests.{ltb-true, lt-ltb, eqb-true, eq-eqb}
 use lib.Dec.{ltb, eqb}
 use Rattle.book.specs.declared.Count.{Count}
-use Rattle.book.proofs.Tests.{and-both, both-and}
-use Rattle.matrix.specs.Matrix.{pick, entry, row, column}
+use Rattle.lists.proofs.Tests.{and-both, both-and}
+use Rattle.lists.specs.Pick.{pick}
+use Rattle.matrix.specs.Matrix.{entry, row, column}
 use Rattle.matrix.specs.Entries.{same}
 use Rattle.matrix.specs.Whole.{allRestZero, allNoneAbove}
 use Rattle.matrix.proofs.Theorems.{same-is-same}

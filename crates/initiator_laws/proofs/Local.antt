@@ -8,9 +8,10 @@ use Rattle.book.specs.declared.Count.{Count}
 use Rattle.book.specs.declared.Process.{Process}
 use Rattle.book.specs.InTurn.{_then_, ask}
 use Rattle.book.specs.Check.{tablesQuestion}
-use Rattle.matrix.specs.Matrix.{pick, column}
+use Rattle.lists.specs.Pick.{pick}
+use Rattle.matrix.specs.Matrix.{column}
 use Rattle.message.specs.declared.Message.{Message}
-use Rattle.message.specs.Formed.{isNamed, isPurpose}
+use Rattle.book.specs.Names.{isNamed, isPurpose}
 use Rattle.mail.specs.declared.Outgoing.{Outgoing}
 use Rattle.mail.specs.Outgoing.{roomQuestion}
 use Rattle.machine.specs.Own.{Own, ownOf, hasCheckpoint, newestPermitted}

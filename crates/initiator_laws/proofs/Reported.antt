@@ -7,8 +7,8 @@ use native.Mathlib.Omega.{arith}
 use borrow.Author.Tests.{eqb-true, eqb-false, not-true}
 use lib.Dec.{ltb, eqb}
 use Rattle.book.specs.declared.Count.{Count}
-use Rattle.book.proofs.Tests.{and-both}
-use Rattle.line_theory.proofs.Over.{getD-tab}
+use Rattle.lists.proofs.Tests.{and-both, first-of-or}
+use Rattle.lists.proofs.Over.{getD-tab}
 use Rattle.consistency.specs.Known.{counters}
 use Rattle.matrix.specs.Matrix.{entry, row, withRow, isPair}
 use Rattle.matrix.specs.Entries.{patch}
@@ -19,7 +19,6 @@ use Rattle.machine.specs.Named.{isParticipant}
 use Rattle.machine.specs.Flags.{flag, someone}
 use Rattle.machine_laws.proofs.Rows.{row-at, zero-patched}
 use Rattle.machine_laws.proofs.Messages.{head-in, news-rest}
-use Rattle.machine_laws.proofs.Tests.{or-first}
 use Rattle.initiator.specs.declared.Initiator.{Initiator}
 use Rattle.initiator.specs.Fits.{fits}
 use Rattle.initiator.specs.Step.{senderOf, wholeIfFirst, awaits, takeReport}
@@ -84,7 +83,7 @@ module _ (own : Own) (state : Initiator) (m : Message) (a : Accepts own state m)
   searching =
       let no-invitation : eqb (m .head .kind) 1 ≡ false = ap (λ (k : ℕ). eqb k 1) (told .kind) in
       subst (λ (p : ℕ). eqb p 2 ≡ false) (told .purpose)
-      (not-true (eqb (m .head .purpose) 2) (or-first (not (eqb (m .head .purpose) 2)) (eqb (m .head .kind) 1) (head .2) no-invitation))
+      (not-true (eqb (m .head .purpose) 2) (first-of-or (not (eqb (m .head .purpose) 2)) (eqb (m .head .kind) 1) (head .2) no-invitation))
 
   sender-there : sender < own .n
   sender-there = omega (arith, head .0, head .1)

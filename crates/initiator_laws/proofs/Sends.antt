@@ -10,11 +10,12 @@ use lib.Dec.{eqb, ltb}
 use Rattle.book.specs.declared.Count.{Count}
 use Rattle.book.specs.declared.Process.{Process}
 use Rattle.book.specs.Bounds.{mark}
-use Rattle.book.proofs.Tests.{and-both}
-use Rattle.line_theory.specs.Over.{sumTo}
-use Rattle.line_theory.proofs.Over.{getD-tab, sum-ext}
+use Rattle.lists.proofs.Tests.{and-both}
+use Rattle.lists.specs.Over.{sumTo}
+use Rattle.lists.proofs.Over.{getD-tab, sum-ext}
 use Rattle.consistency.specs.Known.{counters}
-use Rattle.matrix.specs.Matrix.{pick, entry, row, column, isPair, notKnownAt, notKnownRow}
+use Rattle.lists.specs.Pick.{pick}
+use Rattle.matrix.specs.Matrix.{entry, row, column, isPair, notKnownAt, notKnownRow}
 use Rattle.matrix.specs.Statements.{Fallen}
 use Rattle.matrix.specs.Entries.{isNews, differing, patch}
 use Rattle.matrix.proofs.Rows.{counter-of-row, entry-of-matrix}

@@ -6,7 +6,7 @@ use Rattle.book.specs.Bounds.{mark, mostProcesses}
 use Rattle.matrix.specs.Matrix.{entry, row}
 use Rattle.matrix.specs.Entries.{allLower}
 use Rattle.message.specs.declared.Message.{Message}
-use Rattle.message.specs.Formed.{isNamed, isPurpose}
+use Rattle.book.specs.Names.{isNamed, isPurpose}
 use Rattle.message_laws.specs.Formed.{IsFormed}
 use Rattle.machine.specs.Own.{Own}
 use Rattle.machine.specs.Flags.{someone}

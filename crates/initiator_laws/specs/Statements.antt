@@ -12,7 +12,8 @@ use Rattle.book.specs.Check.{tablesQuestion}
 use Rattle.line_theory.specs.Sets.{View}
 use Rattle.line_theory.specs.Search.{sentTo, line}
 use Rattle.line_theory.specs.OfTables.{viewOf}
-use Rattle.matrix.specs.Matrix.{pick, entry, column, notKnownRow}
+use Rattle.lists.specs.Pick.{pick}
+use Rattle.matrix.specs.Matrix.{entry, column, notKnownRow}
 use Rattle.matrix.specs.Entries.{diff, patch}
 use Rattle.message.specs.declared.Message.{Message}
 use Rattle.message.specs.Layout.{pairCount}

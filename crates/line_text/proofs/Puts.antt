@@ -14,7 +14,7 @@ use lib.Dec.{leb}
 use Rattle.book.specs.declared.WriteAnswer.the-variants.{Length, Refused}
 use Rattle.book.specs.InTurn.{ask}
 use Rattle.book.specs.Write.{lengthOr}
-use Rattle.book.proofs.Stores.{sets-append}
+use Rattle.lists.proofs.Stores.{sets-append}
 use Rattle.line_text.specs.Put.{putAnswer, textPut}
 
 -- the first i bytes of a text stand at the buffer's start

@@ -1,4 +1,3 @@
-pub mod Over
 pub mod Tests
 pub mod Steps
 pub mod Line

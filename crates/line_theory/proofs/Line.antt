@@ -6,7 +6,7 @@ use Prim.Native.Nat.{ℕ, zero, suc, _≤_, _<_}
 use native.Mathlib.Decide.{decLe, decLt}
 use native.Mathlib.Omega.{arith}
 use lib.ListN.{length, getD, List·getD-eq-default}
-use Rattle.line_theory.specs.Over.{sumTo, tab}
+use Rattle.lists.specs.Over.{sumTo, tab}
 use Rattle.line_theory.specs.Sets.{View, IsBook, IsSet, Consistent, IsLine, newerThan, cut}
 use Rattle.line_theory.specs.Search.{permitted, newest, sentTo, stepped, settled, lineSet, line}
 use Rattle.line_theory.specs.Statements.{
@@ -22,7 +22,7 @@ use Rattle.line_theory.specs.Statements.{
   RefusedIsAbove,
   ConsistentAboveIsLine,
 }
-use Rattle.line_theory.proofs.Over.{sum-ext, sum-same, sum-at, sum-missing, length-tab, getD-tab}
+use Rattle.lists.proofs.Over.{sum-ext, sum-same, sum-at, sum-missing, length-tab, getD-tab}
 use Rattle.line_theory.proofs.Tests.{permits-consistent}
 use Rattle.line_theory.proofs.Steps.{consistent-permitted, newest-above, newest-is-newest}
 

@@ -7,7 +7,7 @@ use native.Mathlib.Omega.{arith}
 use Rattle.line_theory.specs.Sets.{View, IsBook, IsSet, Consistent}
 use Rattle.line_theory.specs.Search.{permitted, newest, sentTo}
 use Rattle.line_theory.specs.Statements.{NewestIsNewest, NewestFromCandidate, NotKnownPermits}
-use Rattle.line_theory.proofs.Over.{last-back, last-true, last-later, last-from, last-again}
+use Rattle.lists.proofs.Over.{last-back, last-true, last-later, last-from, last-again}
 use Rattle.line_theory.proofs.Tests.{permitted-in, permitted-out, consistent-is-permitted}
 
 -- more known, no less permitted

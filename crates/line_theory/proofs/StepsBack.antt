@@ -6,11 +6,11 @@ use native.Mathlib.Decide.{ℕ-discrete}
 use native.Mathlib.Omega.{arith}
 use borrow.Author.Tests.{lt-ltb, le-ltb, not-true, not-false}
 use lib.Dec.{ltb}
-use Rattle.line_theory.specs.Over.{sumTo}
+use Rattle.lists.specs.Over.{sumTo}
 use Rattle.line_theory.specs.Sets.{View, IsBook, IsSet, receivedMore, newerThan}
 use Rattle.line_theory.specs.Search.{permitted, sentTo, line}
 use Rattle.line_theory.specs.Statements.{AboveLine}
-use Rattle.line_theory.proofs.Over.{sum-ext, sum-less}
+use Rattle.lists.proofs.Over.{sum-ext, sum-less}
 use Rattle.line_theory.proofs.Tests.{permitted-in, refused-by, refused-witness, permits-consistent}
 use Rattle.line_theory.proofs.Steps.{sent-rises, permitted-more}
 use Rattle.line_theory.proofs.Line.{line-is-line, newer-is-distance, refused-is-above, consistent-above-is-line}

@@ -7,11 +7,11 @@ use native.Mathlib.Decide.{ℕ-discrete}
 use native.Mathlib.Omega.{arith}
 use borrow.Author.Tests.{ltb-false, le-ltb, leb-true, le-leb, leb-false, lt-leb, eq-eqb, ne-eqb, not-true, not-false}
 use lib.Dec.{leb}
-use Rattle.line_theory.specs.Over.{allTo}
+use Rattle.lists.specs.Over.{allTo}
 use Rattle.line_theory.specs.Sets.{View, IsBook, IsSet, Consistent, receivedMore, atFault, consistent}
 use Rattle.line_theory.specs.Search.{permitted, sentTo}
 use Rattle.line_theory.specs.Statements.{TestIsPairwise, NoHasPair, PermittedIsConsistent}
-use Rattle.line_theory.proofs.Over.{all-in, all-out, all-not, all-witness}
+use Rattle.lists.proofs.Over.{all-in, all-out, all-not, all-witness}
 
 -- ---- the computed test
 

@@ -1,4 +1,3 @@
-pub mod Over
 pub mod Sets
 pub mod Search
 pub mod OfTables

@@ -6,7 +6,7 @@ use mathlib.Core.List.{List}
 use Prim.Native.Nat.{ℕ, zero, suc}
 use lib.ListN.{getD}
 use lib.Dec.{leb}
-use Rattle.line_theory.specs.Over.{allTo, sumTo, tab, lastTo}
+use Rattle.lists.specs.Over.{allTo, sumTo, tab, lastTo}
 use Rattle.line_theory.specs.Sets.{View, newerThan}
 
 -- Document 01, "A search": a checkpoint "whose received counters are at most the known sent counters". `row p` is what

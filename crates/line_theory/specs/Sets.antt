@@ -4,7 +4,7 @@ use mathlib.Core.Path.{_≡_}
 use mathlib.Core.Bool.{Bool, _&&_, not}
 use Prim.Native.Nat.{ℕ, suc, _-_, _≤_, _<_}
 use lib.Dec.{ltb, eqb}
-use Rattle.line_theory.specs.Over.{allTo, sumTo}
+use Rattle.lists.specs.Over.{allTo, sumTo}
 
 -- A book as K 2.2 sees it: process j has `count j` checkpoints, and its checkpoint r had sent partner p so many messages
 -- (S) and received so many from it (R).

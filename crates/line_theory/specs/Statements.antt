@@ -9,7 +9,7 @@ use lib.ListN.{length}
 use Rattle.book.specs.declared.Shape.{Shape}
 use Rattle.book.specs.Bounds.{mark, mostProcesses}
 use Rattle.book.specs.Check.{tablesQuestion}
-use Rattle.line_theory.specs.Over.{sumTo}
+use Rattle.lists.specs.Over.{sumTo}
 use Rattle.line_theory.specs.Sets.{View, IsBook, IsSet, Consistent, atFault, consistent, IsLine, newerThan, cut}
 use Rattle.line_theory.specs.Search.{permitted, newest, sentTo, line}
 use Rattle.line_theory.specs.OfTables.{viewOf}

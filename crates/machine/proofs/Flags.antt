@@ -9,9 +9,9 @@ use borrow.Author.Tests.{eq-eqb, ne-eqb}
 use lib.ListN.{length, getD, set, replicate, length-set}
 use lib.Seq.{getD-set-same, getD-set-other}
 use lib.Dec.{eqb}
-use Rattle.line_theory.specs.Over.{tab, tabFrom}
-use Rattle.line_theory.proofs.Over.{getD-tab, tab-is}
-use Rattle.consistency.proofs.Fills.{fill-more}
+use Rattle.lists.specs.Over.{tab, tabFrom}
+use Rattle.lists.proofs.Over.{getD-tab, tab-is}
+use Rattle.lists.proofs.Fills.{fill-more}
 use Rattle.machine.specs.Flags.{flag}
 
 -- ---- filled

@@ -4,7 +4,7 @@ use mathlib.Core.List.{List}
 use Prim.Native.Nat.{ℕ}
 use lib.ListN.{getD}
 use Rattle.book.specs.Bounds.{mostProcesses}
-use Rattle.line_theory.specs.Over.{allTo, tab}
+use Rattle.lists.specs.Over.{allTo, tab}
 use Rattle.machine.specs.Named.{isParticipant}
 
 abbrev pub flag : List Bool → ℕ → Bool

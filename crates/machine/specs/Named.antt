@@ -2,7 +2,7 @@
 use mathlib.Core.Bool.{Bool, _&&_, not}
 use Prim.Native.Nat.{ℕ}
 use lib.Dec.{ltb, eqb}
-use Rattle.message.specs.Formed.{isNamed}
+use Rattle.book.specs.Names.{isNamed}
 
 -- 10: "Is each process named from 1 to n (a participant: other than the initiator)?"
 abbrev pub participantNamed : ℕ → ℕ → ℕ → Bool

@@ -6,7 +6,7 @@ use lib.Dec.{eqb}
 use Rattle.book.specs.declared.Count.{Count}
 use Rattle.book.specs.declared.Process.{Process}
 use Rattle.book.specs.Bounds.{mark, mostProcesses}
-use Rattle.line_theory.specs.Over.{tab}
+use Rattle.lists.specs.Over.{tab}
 use Rattle.consistency.specs.Known.{counters}
 use Rattle.matrix.specs.Matrix.{asMatrix}
 use Rattle.message.specs.declared.Head.{Head}

@@ -12,7 +12,7 @@ ghost use mathlib.Core.Bool.{_&&_, not};
 ghost use Prim.Native.Nat.{_-_, _≤_, _<_};
 ghost use lib.Dec.{eqb};
 ghost use Rattle.book.specs.View.{count, S};
-ghost use Rattle.line_theory.specs.Over.{tab};
+ghost use Rattle.lists.specs.Over.{tab};
 ghost use Rattle.matrix.specs.Matrix.{asRow, asMatrix};
 ghost use Rattle.consistency.specs.Known.{counters};
 ghost use Rattle.consistency.specs.Given.{Whole, IsProcess};
@@ -27,10 +27,10 @@ pub const COUNT_LIMIT: u32 = 4294967295;
 pub fn participant_named(n: usize, me: Process, initiator: Process) -> bool
     ensures { λ r. ⌜ r ≡ participantNamed n (me .0) (initiator .0) ⌝ }
 {
-    if !message::is_named(n, me.0) {
+    if !book::is_named(n, me.0) {
         return false;
     }
-    if !message::is_named(n, initiator.0) {
+    if !book::is_named(n, initiator.0) {
         return false;
     }
     me.0 != initiator.0

@@ -4,7 +4,7 @@ use mathlib.Core.Bool.{true}
 use Prim.Native.Nat.{ℕ, _≤_}
 use borrow.Author.Tests.{leb-true, le-leb}
 use lib.Dec.{leb}
-use Rattle.book.proofs.Tests.{and-both, both-and}
+use Rattle.lists.proofs.Tests.{and-both, both-and}
 use Rattle.machine.specs.Own.{Own, hasCheckpoint}
 
 module _ (own : Own) (r : ℕ) where

@@ -4,7 +4,7 @@ use mathlib.Core.Bool.{Bool, true, false, not}
 use mathlib.Core.List.{List}
 use Prim.Native.Nat.{ℕ, _<_}
 use borrow.Author.Tests.{not-true, not-false}
-use Rattle.line_theory.proofs.Over.{all-in, all-out, all-not, all-witness}
+use Rattle.lists.proofs.Over.{all-in, all-out, all-not, all-witness}
 use Rattle.machine.specs.Flags.{flag, someone}
 
 module _ (flags : List Bool) where

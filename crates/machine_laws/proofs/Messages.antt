@@ -7,11 +7,12 @@ use native.Mathlib.Omega.{arith}
 use borrow.Author.Tests.{eq-eqb, ne-eqb}
 use lib.Dec.{eqb}
 use Rattle.book.specs.Bounds.{mark}
-use Rattle.book.proofs.Tests.{and-both}
+use Rattle.lists.proofs.Tests.{and-both}
 use Rattle.consistency.specs.Known.{counters}
 use Rattle.matrix.specs.Matrix.{isPair}
 use Rattle.message.specs.declared.Message.{Message}
-use Rattle.message.specs.Formed.{isKind, isPurpose, isNamed, headFormed, participantEnd}
+use Rattle.book.specs.Names.{isPurpose, isNamed}
+use Rattle.message.specs.Formed.{isKind, headFormed, participantEnd}
 use Rattle.message.proofs.Heads.{named-in}
 use Rattle.message_laws.specs.Formed.{IsFormed}
 use Rattle.machine_laws.proofs.Pairs.{no-pair}

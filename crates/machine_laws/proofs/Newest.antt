@@ -5,9 +5,9 @@ use Prim.Native.Nat.{ℕ, zero, suc, _≤_, _<_}
 use native.Mathlib.Decide.{decLt}
 use native.Mathlib.Omega.{arith}
 use lib.Dec.{leb}
-use Rattle.line_theory.specs.Over.{allTo, lastTo}
+use Rattle.lists.specs.Over.{allTo, lastTo}
 use Rattle.line_theory.specs.Search.{permitted, newest}
-use Rattle.line_theory.proofs.Over.{last-yes, last-no, last-back, last-true, last-from}
+use Rattle.lists.proofs.Over.{last-yes, last-no, last-back, last-true, last-from}
 use Rattle.line_theory.proofs.Steps.{permitted-more}
 use Rattle.line_theory.proofs.Tests.{permitted-out}
 

@@ -7,15 +7,16 @@ use borrow.Author.Tests.{eqb-true, eq-eqb}
 use lib.Dec.{eqb}
 use Rattle.book.specs.declared.Count.{Count}
 use Rattle.book.specs.Bounds.{mark}
-use Rattle.line_theory.proofs.Over.{all-in, all-out}
+use Rattle.lists.proofs.Over.{all-in, all-out}
 use Rattle.consistency.specs.Known.{counters}
-use Rattle.matrix.specs.Matrix.{pick, asRow, entry, row, column, isPair, notKnownAt, notKnownRow, notKnownMatrix}
+use Rattle.lists.specs.Pick.{pick}
+use Rattle.matrix.specs.Matrix.{asRow, entry, row, column, isPair, notKnownAt, notKnownRow, notKnownMatrix}
 use Rattle.matrix.specs.Entries.{same, restZero, patch}
 use Rattle.matrix.proofs.Rows.{row-is, row-length, counter-of-row, entry-of-matrix}
 use Rattle.matrix.proofs.News.{changed-none}
 use Rattle.matrix.proofs.Theorems.{same-is-same, patch-at}
 use Rattle.machine.specs.Own.{Own, sentRow}
-use Rattle.machine_laws.proofs.Tests.{or-second, or-out}
+use Rattle.lists.proofs.Tests.{second-of-or, or-unless}
 
 -- rows with the same entries are the same
 pub row-ext : (f g : ℕ → ℕ) → ((p : ℕ) → p < 16 → f p ≡ g p) → asRow f ≡ asRow g
@@ -42,13 +43,13 @@ module _ (n j : ℕ) (a : List Count) where
   pub rest-in : restZero n j a ≡ true → (p : ℕ) → p < 16 → isPair n j p ≡ false → counters a p ≡ 0
   unfolding restZero
   rest-in zeros p h none =
-      eqb-true (counters a p) 0 (or-second (isPair n j p) (eqb (counters a p) 0) (all-in 16 (zeroOrPair n j a) zeros p h) none)
+      eqb-true (counters a p) 0 (second-of-or (isPair n j p) (eqb (counters a p) 0) (all-in 16 (zeroOrPair n j a) zeros p h) none)
 
   pub rest-out : ((p : ℕ) → p < 16 → isPair n j p ≡ false → counters a p ≡ 0) → restZero n j a ≡ true
   unfolding restZero
   rest-out zeros =
       all-out 16 (zeroOrPair n j a)
-      (λ p h. or-out (isPair n j p) (eqb (counters a p) 0) (λ none. eq-eqb (counters a p) 0 (zeros p h none)))
+      (λ p h. or-unless (isPair n j p) (eqb (counters a p) 0) (λ none. eq-eqb (counters a p) 0 (zeros p h none)))
 
 -- an entry stays zero, where the news says nothing of it
 pub zero-patched : (a news : List Count) (p : ℕ) → p < 16 → counters a p ≡ 0 → counters news p ≡ mark → counters (patch a news) p ≡ 0

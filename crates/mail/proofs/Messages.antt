@@ -12,8 +12,8 @@ use Rattle.varint.specs.Number.{encode}
 use Rattle.varint.specs.Sequence.{encodeAll}
 use Rattle.varint.proofs.Sequence.{encodeAll-append}
 use Rattle.consistency.specs.Known.{counters}
-use Rattle.consistency.proofs.Fills.{fill-more}
-use Rattle.line_theory.proofs.Over.{tab-is}
+use Rattle.lists.proofs.Fills.{fill-more}
+use Rattle.lists.proofs.Over.{tab-is}
 use Rattle.message.specs.declared.Head.{Head}
 use Rattle.message.specs.declared.Message.{Message}
 use Rattle.message.specs.Layout.{pairsTo, pairCount, headNumbers, messageBytes}

@@ -7,7 +7,7 @@ use native.Mathlib.Numerals.{add-one}
 use native.Mathlib.Omega.{arith}
 use lib.ListN.{length, take, drop, length-append, length-drop, drop-of-length-le}
 use lib.Seq.{sets, length-sets, sets-eq, take-all, drop-drop}
-use Rattle.book.proofs.Stores.{sets-append}
+use Rattle.lists.proofs.Stores.{sets-append}
 
 -- the bytes of the first k processes, and those of each
 pub record Parts (upTo part : ℕ → List ℕ) : Type 0 where

@@ -8,8 +8,9 @@ use lib.Dec.{leb}
 use lib.Seq.{sets}
 use Rattle.book.specs.Bounds.{mostProcesses}
 use Rattle.book.specs.InTurn.{ask, unlessRefused}
-use Rattle.line_theory.specs.Over.{tab}
-use Rattle.matrix.specs.Matrix.{pick, row}
+use Rattle.lists.specs.Over.{tab}
+use Rattle.lists.specs.Pick.{pick}
+use Rattle.matrix.specs.Matrix.{row}
 use Rattle.message.specs.declared.Message.{Message}
 use Rattle.message.specs.Layout.{messageBytes}
 use Rattle.mail.specs.declared.Outgoing.{Outgoing}

@@ -3,9 +3,9 @@ use mathlib.Core.Path.{_≡_}
 use mathlib.Core.Bool.{Bool, true}
 use Prim.Native.Nat.{ℕ, _+_, _≤_, _<_}
 use native.Mathlib.Omega.{arith}
-use Rattle.line_theory.specs.Over.{allTo}
-use Rattle.line_theory.proofs.Over.{all-out}
-use Rattle.book.proofs.Loops.{below-more}
+use Rattle.lists.specs.Over.{allTo}
+use Rattle.lists.proofs.Over.{all-out}
+use Rattle.lists.proofs.Fills.{below-more}
 
 pub record Before (f : ℕ → Bool) (k : ℕ) : Type 0 where
   pub within : k ≤ 16

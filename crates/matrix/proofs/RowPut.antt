@@ -10,8 +10,9 @@ use lib.Seq.{getD-set-same, getD-set-other}
 use lib.Dec.{eqb}
 use Rattle.book.specs.declared.Count.{Count}
 use Rattle.consistency.specs.Known.{counters}
-use Rattle.book.proofs.Loops.{below-more}
-use Rattle.matrix.specs.Matrix.{pick, entry, withRow}
+use Rattle.lists.proofs.Fills.{below-more}
+use Rattle.lists.specs.Pick.{pick}
+use Rattle.matrix.specs.Matrix.{entry, withRow}
 use Rattle.matrix.proofs.Rows.{matrix-is}
 
 -- p entries of the row that begins at `first` are put

@@ -6,10 +6,10 @@ use Prim.Native.Nat.{ℕ, _+_, _*_, _/_, _%_, _≤_, _<_}
 use native.Mathlib.Omega.{arith}
 use lib.ListN.{length, set, length-set}
 use Rattle.book.specs.declared.Count.{Count}
-use Rattle.line_theory.specs.Over.{tab}
-use Rattle.line_theory.proofs.Over.{length-tab, getD-tab, tab-is}
+use Rattle.lists.specs.Over.{tab}
+use Rattle.lists.proofs.Over.{length-tab, getD-tab, tab-is}
 use Rattle.consistency.specs.Known.{counters}
-use Rattle.consistency.proofs.Fills.{fill-more}
+use Rattle.lists.proofs.Fills.{fill-more}
 use Rattle.matrix.specs.Matrix.{asRow, asMatrix, entry}
 
 -- ---- a list of entries, filled up to a place

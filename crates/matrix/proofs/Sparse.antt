@@ -7,7 +7,7 @@ use lib.ListN.{set, replicate, length-replicate, getD-replicate}
 use lib.Seq.{getD-set-other}
 use Rattle.book.specs.declared.Count.{Count}
 use Rattle.consistency.specs.Known.{counters}
-use Rattle.book.proofs.Loops.{below-more}
+use Rattle.lists.proofs.Fills.{below-more}
 use Rattle.matrix.specs.Matrix.{asMatrix}
 use Rattle.matrix.proofs.Rows.{Filled, filled-none, filled-more, matrix-is}
 

@@ -11,8 +11,8 @@ use lib.Dec.{leb, eqb}
 use lib.ListN.{length, getD, set, replicate, length-set, getD-replicate}
 use lib.Seq.{getD-set-same, getD-set-other}
 use Rattle.book.specs.declared.Count.{Count}
-use Rattle.line_theory.specs.Over.{allTo}
-use Rattle.line_theory.proofs.Over.{all-in, all-out, getD-tab, tab-is}
+use Rattle.lists.specs.Over.{allTo}
+use Rattle.lists.proofs.Over.{all-in, all-out, getD-tab, tab-is}
 use Rattle.consistency.specs.Known.{counters}
 use Rattle.matrix.specs.Matrix.{entry, row, column}
 use Rattle.matrix.specs.Entries.{same, noneAbove}

@@ -7,9 +7,10 @@ use Prim.Native.Nat.{ℕ, _≤_, _<_}
 use borrow.Author.Tests.{eqb-true, eq-eqb, ne-eqb}
 use lib.Dec.{eqb}
 use Rattle.book.specs.declared.Count.{Count}
-use Rattle.line_theory.proofs.Over.{all-in, all-out}
+use Rattle.lists.proofs.Over.{all-in, all-out}
 use Rattle.consistency.specs.Known.{counters}
-use Rattle.matrix.specs.Matrix.{pick, entry, withRow}
+use Rattle.lists.specs.Pick.{pick}
+use Rattle.matrix.specs.Matrix.{entry, withRow}
 use Rattle.matrix.specs.Entries.{differing, changed, diff, patch, same, allLower}
 use Rattle.matrix.specs.Statements.{EntriesOfFunction, RowWithRow, OtherRows, ColumnWithRow, Fallen, PatchDiff, DiffLower, DiffNone, PatchNotRaised, SameIsSame}
 use Rattle.matrix.proofs.Rows.{row-is, row-length, counter-of-row, entry-of-matrix}

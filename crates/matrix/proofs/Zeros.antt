@@ -8,9 +8,9 @@ use native.Mathlib.Omega.{arith}
 use borrow.Author.Tests.{lt-ltb, le-ltb, eq-eqb, ne-eqb}
 use lib.Dec.{ltb, eqb}
 use Rattle.book.specs.declared.Count.{Count}
-use Rattle.line_theory.proofs.Over.{all-out, all-not}
+use Rattle.lists.proofs.Over.{all-out, all-not}
 use Rattle.consistency.specs.Known.{counters}
-use Rattle.book.proofs.Loops.{below-more}
+use Rattle.lists.proofs.Fills.{below-more}
 use Rattle.matrix.specs.Matrix.{isPair}
 use Rattle.matrix.specs.Entries.{zeroFrom, restZero}
 use Rattle.matrix.proofs.Sweep.{all-same}

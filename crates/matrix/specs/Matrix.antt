@@ -7,12 +7,9 @@ use Prim.Native.Nat.{ℕ, _+_, _*_, _/_, _%_}
 use lib.Dec.{ltb, eqb}
 use Rattle.book.specs.declared.Count.{Count}
 use Rattle.book.specs.Bounds.{mark, mostProcesses}
-use Rattle.line_theory.specs.Over.{tab}
+use Rattle.lists.specs.Over.{tab}
+use Rattle.lists.specs.Pick.{pick}
 use Rattle.consistency.specs.Known.{counters}
-
-abbrev pub pick : {A : Type 0} → Bool → A → A → A
-pick true yes′ no′ = yes′
-pick false yes′ no′ = no′
 
 -- sixteen entries, and sixteen rows of them
 unfoldable pub asRow : (ℕ → ℕ) → List Count

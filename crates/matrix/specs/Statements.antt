@@ -9,7 +9,8 @@ use lib.Dec.{eqb}
 use Rattle.book.specs.declared.Count.{Count}
 use Rattle.book.specs.Bounds.{mark, mostProcesses}
 use Rattle.consistency.specs.Known.{counters}
-use Rattle.matrix.specs.Matrix.{pick, asRow, asMatrix, entry, row, column, withRow}
+use Rattle.lists.specs.Pick.{pick}
+use Rattle.matrix.specs.Matrix.{asRow, asMatrix, entry, row, column, withRow}
 use Rattle.matrix.specs.Entries.{diff, patch, same, allLower}
 
 -- A matrix made of a function has its values as entries, and so has a row.

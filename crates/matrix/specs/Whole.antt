@@ -5,9 +5,10 @@ use Prim.Native.Nat.{ℕ}
 use lib.Dec.{eqb}
 use Rattle.book.specs.declared.Count.{Count}
 use Rattle.book.specs.Bounds.{mark, mostProcesses}
-use Rattle.line_theory.specs.Over.{allTo, tab}
+use Rattle.lists.specs.Over.{allTo, tab}
 use Rattle.consistency.specs.Known.{counters}
-use Rattle.matrix.specs.Matrix.{pick, asMatrix, entry, row, column, notKnownRow}
+use Rattle.lists.specs.Pick.{pick}
+use Rattle.matrix.specs.Matrix.{asMatrix, entry, row, column, notKnownRow}
 use Rattle.matrix.specs.Entries.{differing, same, restZero, noneAbove}
 
 -- "diagonal and absent entries are zero"

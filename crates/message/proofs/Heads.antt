@@ -10,12 +10,12 @@ use Rattle.varint.specs.Number.{readNumber}
 use Rattle.varint.specs.Sequence.{Numbers}
 use Rattle.varint.proofs.Sequence.{numbers-none, numbers-more}
 use Rattle.book.specs.Bounds.{groups, largest}
-use Rattle.book.proofs.Tests.{and-both}
+use Rattle.lists.proofs.Tests.{and-both, and-first, and-second}
 use Rattle.book.specs.Read.{numbersFrom}
 use Rattle.message.specs.declared.HeadRead.the-variants.{Found}
-use Rattle.message.specs.Formed.{isKind, isPurpose, isNamed, headFormed, beginFormed}
+use Rattle.book.specs.Names.{isPurpose, isNamed}
+use Rattle.message.specs.Formed.{isKind, headFormed, beginFormed}
 use Rattle.message.specs.Parts.{HeadFound}
-use Rattle.message.proofs.Tests.{and-first, and-second}
 
 -- ---- the three numbers
 

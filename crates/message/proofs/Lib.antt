@@ -1,4 +1,3 @@
-pub mod Tests
 pub mod Pairs
 pub mod Heads
 pub mod PairTurns

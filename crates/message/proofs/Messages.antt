@@ -7,7 +7,7 @@ use lib.ListN.{length}
 use lib.Dec.{eqb}
 use borrow.Author.Tests.{eq-eqb, ne-eqb}
 use Rattle.varint.specs.Sequence.{Numbers}
-use Rattle.book.proofs.Tests.{and-both}
+use Rattle.lists.proofs.Tests.{and-both, and-first, and-second}
 use Rattle.book.specs.Read.{numbersFrom}
 use Rattle.consistency.specs.Known.{counters}
 use Rattle.matrix.specs.Entries.{isNews}
@@ -16,10 +16,10 @@ use Rattle.message.specs.declared.HeadRead.the-variants.{Found}
 use Rattle.message.specs.declared.PairsRead.{PairsRead}
 use Rattle.message.specs.declared.Message.{Message}
 use Rattle.message.specs.Layout.{pairCount}
-use Rattle.message.specs.Formed.{isKind, isPurpose, isNamed, headFormed, participantEnd, beginFormed, countedFormed, newsCounted, invitationFormed, numbersFormed, numbersIn, messageOf, messageFormed}
+use Rattle.book.specs.Names.{isPurpose, isNamed}
+use Rattle.message.specs.Formed.{isKind, headFormed, participantEnd, beginFormed, countedFormed, newsCounted, invitationFormed, numbersFormed, numbersIn, messageOf, messageFormed}
 use Rattle.message.specs.Parts.{HeadFound, PairsFound}
 use Rattle.message.specs.Read.{noMessage, messageRead}
-use Rattle.message.proofs.Tests.{and-first, and-second}
 use Rattle.message.proofs.Heads.{named-in}
 
 -- ---- an invitation's pairs

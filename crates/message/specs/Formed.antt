@@ -8,9 +8,10 @@ use lib.Dec.{ltb, leb, eqb}
 use Rattle.varint.specs.Sequence.{Numbers}
 use Rattle.book.specs.declared.Count.{Count}
 use Rattle.book.specs.Bounds.{mark}
+use Rattle.book.specs.Names.{isPurpose, isNamed}
 use Rattle.book.specs.Read.{numbersFrom}
 use Rattle.consistency.specs.Known.{counters}
-use Rattle.matrix.specs.Matrix.{pick}
+use Rattle.lists.specs.Pick.{pick}
 use Rattle.matrix.specs.Entries.{isNews}
 use Rattle.message.specs.declared.Message.{Message}
 use Rattle.message.specs.Layout.{pairCount, noNews}
@@ -18,14 +19,6 @@ use Rattle.message.specs.Layout.{pairCount, noNews}
 -- "kind (1 invitation, 2 other)"
 abbrev pub isKind : ℕ → Bool
 isKind kind = eqb kind 1 || eqb kind 2
-
--- 01's purposes: "1 advance the line, 2 restart only, 3 advance and restart". "purposes 1 to 3"; question 11, of what a call or a state names: "Is the purpose 1, 2 or 3?"
-abbrev pub isPurpose : ℕ → Bool
-isPurpose purpose = leb 1 purpose && leb purpose 3
-
--- "processes 1 to n"; question 10, likewise: "Is each process named from 1 to n ..?"
-abbrev pub isNamed : ℕ → ℕ → Bool
-isNamed n process = leb 1 process && leb process n
 
 -- the head: its three numbers, and "purpose 2 only in an invitation"
 unfoldable pub headFormed : ℕ → ℕ → ℕ → ℕ → Bool

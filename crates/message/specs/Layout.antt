@@ -9,9 +9,10 @@ use Prim.Native.Nat.{ℕ, zero, suc}
 use Rattle.varint.specs.Sequence.{encodeAll}
 use Rattle.book.specs.declared.Count.{Count}
 use Rattle.book.specs.Bounds.{mark, mostProcesses}
-use Rattle.line_theory.specs.Over.{sumTo}
+use Rattle.lists.specs.Over.{sumTo}
 use Rattle.consistency.specs.Known.{counters}
-use Rattle.matrix.specs.Matrix.{pick, asRow}
+use Rattle.lists.specs.Pick.{pick}
+use Rattle.matrix.specs.Matrix.{asRow}
 use Rattle.matrix.specs.Entries.{isNews}
 use Rattle.message.specs.declared.Head.{Head}
 use Rattle.message.specs.declared.Message.{Message}

@@ -1,7 +1,8 @@
 -- The message that bytes hold.
 use mathlib.Core.List.{List}
 use Prim.Native.Nat.{ℕ}
-use Rattle.matrix.specs.Matrix.{pick, asRow}
+use Rattle.lists.specs.Pick.{pick}
+use Rattle.matrix.specs.Matrix.{asRow}
 use Rattle.message.specs.declared.Message.{Message}
 use Rattle.message.specs.Formed.{messageOf, numbersIn, messageFormed}
 

@@ -6,7 +6,7 @@ use varint::Numeral;
 ghost use mathlib.Core.Path.{_≡_};
 ghost use Prim.Native.Nat.{_≤_};
 ghost use Rattle.message.specs.Layout.{pairCount};
-ghost use Rattle.message.specs.Formed.{isPurpose, isNamed, headFormed, participantEnd, pairFormed, invitationFormed, messageFormed};
+ghost use Rattle.message.specs.Formed.{headFormed, participantEnd, pairFormed, invitationFormed, messageFormed};
 ghost use Rattle.message.specs.Read.{noMessage, messageRead};
 ghost use Rattle.message.specs.Parts.{HeadFound, CountedFound, PairsFound};
 
@@ -41,20 +41,6 @@ pub struct ReadMessage {
     pub message: Message,
 }
 
-// Is the purpose 1, 2 or 3 (question 11)?
-pub fn is_purpose(purpose: u64) -> bool
-    ensures { λ r. ⌜ r ≡ isPurpose purpose ⌝ }
-{
-    1 <= purpose && purpose <= 3
-}
-
-// Is the process from 1 to n (question 10)?
-pub fn is_named(n: usize, process: usize) -> bool
-    ensures { λ r. ⌜ r ≡ isNamed n process ⌝ }
-{
-    1 <= process && process <= n
-}
-
 // Is the head formed: a kind, a purpose, a sender, and purpose 2 only in an invitation?
 fn head_formed(n: usize, kind: u64, purpose: u64, sender: u64) -> bool
     ensures { λ r. ⌜ r ≡ headFormed n kind purpose sender ⌝ }
@@ -62,10 +48,10 @@ fn head_formed(n: usize, kind: u64, purpose: u64, sender: u64) -> bool
     if kind != 1 && kind != 2 {
         return false;
     }
-    if !is_purpose(purpose) {
+    if !book::is_purpose(purpose) {
         return false;
     }
-    if !is_named(n, sender as usize) {
+    if !book::is_named(n, sender as usize) {
         return false;
     }
     purpose != 2 || kind == 1

@@ -11,7 +11,7 @@ use lib.ListN.{length, set, length-set, length-append}
 use lib.Seq.{getD-set-same, getD-set-other}
 use Rattle.book.specs.declared.Count.{Count}
 use Rattle.book.specs.Bounds.{mark}
-use Rattle.line_theory.specs.Over.{sumTo}
+use Rattle.lists.specs.Over.{sumTo}
 use Rattle.consistency.specs.Known.{counters}
 use Rattle.matrix.proofs.Rows.{row-is, row-length, counter-of-row}
 use Rattle.message.specs.Layout.{pairsTo, pairCountTo, noNews}

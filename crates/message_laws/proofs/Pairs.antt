@@ -14,7 +14,7 @@ use Rattle.varint.specs.Number.{encode}
 use Rattle.varint.specs.Sequence.{encodeAll}
 use Rattle.varint.proofs.Encode.{encode-last, encode-size}
 use Rattle.book.specs.Bounds.{mark}
-use Rattle.book.proofs.Tests.{and-both, both-and}
+use Rattle.lists.proofs.Tests.{and-both, both-and}
 use Rattle.message.specs.Formed.{pairFormed, pairsFormed}
 
 -- ---- one pair

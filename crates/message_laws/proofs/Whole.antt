@@ -16,25 +16,12 @@ use Rattle.varint.proofs.Encode.{encode-last}
 use Rattle.varint.proofs.Sequence.{scan-encodeAll, encodeAll-scan}
 use Rattle.book.specs.declared.Count.{Count}
 use Rattle.book.specs.Bounds.{mark}
-use Rattle.book.proofs.Tests.{and-both, both-and}
+use Rattle.lists.proofs.Tests.{and-both, both-and}
 use Rattle.consistency.specs.Known.{counters}
 use Rattle.message.specs.declared.Message.{Message}
 use Rattle.message.specs.Layout.{pairsTo, pairCount, messageNumbers, messageBytes}
-use Rattle.message.specs.Formed.{
-  isKind,
-  isPurpose,
-  isNamed,
-  headFormed,
-  participantEnd,
-  pairsFormed,
-  invitationFormed,
-  countedFormed,
-  messageOf,
-  beginFormed,
-  numbersFormed,
-  numbersIn,
-  messageFormed,
-}
+use Rattle.book.specs.Names.{isPurpose, isNamed}
+use Rattle.message.specs.Formed.{isKind, headFormed, participantEnd, pairsFormed, invitationFormed, countedFormed, messageOf, beginFormed, numbersFormed, numbersIn, messageFormed}
 use Rattle.message.specs.Read.{messageRead}
 use Rattle.message_laws.specs.Formed.{IsFormed}
 use Rattle.message_laws.proofs.Pairs.{AtMost, most-cons, formed-count, formed-few, formed-most, formed-bytes}

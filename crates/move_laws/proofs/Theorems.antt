@@ -19,7 +19,7 @@ use Rattle.line_theory.specs.Search.{line}
 use Rattle.line_theory.proofs.Line.{line-absent}
 use Rattle.line_theory.proofs.Theorems.{line-is-line}
 use Rattle.finder.specs.Line.{checkpoints, noLine, lineFound}
-use Rattle.message.specs.Formed.{isPurpose}
+use Rattle.book.specs.Names.{isPurpose}
 use Rattle.shown.specs.Shown.{bookShown}
 use Rattle.shown.specs.Statements.{IsCounter, SameCounters}
 use Rattle.shown.proofs.Theorems.{same-book, tables-shown}

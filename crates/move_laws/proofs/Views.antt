@@ -5,9 +5,9 @@ use native.Mathlib.Nat.{sub-add-cancel, sub-self}
 use native.Mathlib.Decide.{ℕ-discrete}
 use native.Mathlib.Omega.{arith}
 use Rattle.book.specs.Bounds.{mark}
-use Rattle.line_theory.specs.Over.{sumTo}
+use Rattle.lists.specs.Over.{sumTo}
 use Rattle.line_theory.specs.Sets.{View, IsBook}
-use Rattle.line_theory.proofs.Over.{sum-le}
+use Rattle.lists.proofs.Over.{sum-le}
 use Rattle.line_theory.proofs.Steps.{sent-rises}
 use Rattle.shown.specs.Statements.{IsCounter, ShowsBook, SameCounters}
 use Rattle.restart.specs.Plan.{Planned, applied}

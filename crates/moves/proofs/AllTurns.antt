@@ -11,7 +11,7 @@ use Rattle.book.specs.declared.Checkpoint.{Checkpoint}
 use Rattle.book.specs.declared.Count.{Count}
 use Rattle.book.specs.declared.TableRows.{TableRows}
 use Rattle.book.specs.View.{count, firstRow, counterAt}
-use Rattle.book.proofs.Stores.{sets-append}
+use Rattle.lists.proofs.Stores.{sets-append}
 use Rattle.book.proofs.Fits.{first-more}
 use Rattle.book.proofs.Starts.{placed-first}
 use Rattle.book.proofs.Sums.{sum-more, sum-take}

@@ -7,9 +7,9 @@ use native.Mathlib.Omega.{arith}
 use lib.ListN.{length, getD}
 use lib.Seq.{sets, length-sets}
 use Rattle.book.specs.declared.Count.{Count}
-use Rattle.book.proofs.Stores.{sets-append}
-use Rattle.line_theory.specs.Over.{tab}
-use Rattle.line_theory.proofs.Over.{tab-same}
+use Rattle.lists.proofs.Stores.{sets-append}
+use Rattle.lists.specs.Over.{tab}
+use Rattle.lists.proofs.Over.{tab-same}
 use Rattle.consistency.specs.Known.{counters}
 use Rattle.shown.specs.Rows.{rowsTo}
 use Rattle.moves.specs.Parts.{lowered}

@@ -7,9 +7,9 @@ use native.Mathlib.Omega.{arith}
 use lib.ListN.{length, getD, set}
 use lib.Seq.{sets, length-sets}
 use Rattle.book.specs.declared.Count.{Count}
-use Rattle.book.proofs.Stores.{sets-more}
-use Rattle.line_theory.specs.Over.{tabFrom, tab}
-use Rattle.line_theory.proofs.Over.{length-tab, tab-last}
+use Rattle.lists.proofs.Stores.{sets-more}
+use Rattle.lists.specs.Over.{tabFrom, tab}
+use Rattle.lists.proofs.Over.{length-tab, tab-last}
 use Rattle.consistency.specs.Known.{counters}
 use Rattle.moves.specs.Parts.{lowered}
 use Rattle.moves.proofs.Places.{read-after}

@@ -4,8 +4,8 @@ use mathlib.Core.List.{List, _++_}
 use Prim.Native.Nat.{ℕ, zero, suc, _+_, _*_, _≤_, _<_}
 use native.Mathlib.Omega.{arith}
 use lib.ListN.{length, length-append}
-use Rattle.line_theory.specs.Over.{tab}
-use Rattle.line_theory.proofs.Over.{length-tab, tab-same}
+use Rattle.lists.specs.Over.{tab}
+use Rattle.lists.proofs.Over.{length-tab, tab-same}
 use Rattle.shown.specs.Rows.{rowsTo, allRowsTo}
 
 -- ---- the rows of one process

@@ -14,7 +14,7 @@ ghost use lib.ListN.{length};
 ghost use lib.Seq.{sets};
 ghost use Rattle.book.specs.Tables.{padded};
 ghost use Rattle.book.specs.InTurn.{answerTo};
-ghost use Rattle.line_theory.specs.Over.{tab};
+ghost use Rattle.lists.specs.Over.{tab};
 ghost use Rattle.shown.specs.Rows.{rowsTo};
 ghost use Rattle.restart.specs.Calls.{moveQuestion, orderGiven, shapeMoved, sentMoved, receivedMoved};
 ghost use Rattle.moves.specs.Parts.{lowered, Movable, rowsMoved};

@@ -19,7 +19,8 @@ use Rattle.matrix.specs.Matrix.{notKnownRow}
 use Rattle.matrix.specs.Entries.{allLower}
 use Rattle.message.specs.declared.Message.{Message}
 use Rattle.message.specs.declared.ReadMessage.{ReadMessage}
-use Rattle.message.specs.Formed.{isPurpose, messageFormed}
+use Rattle.book.specs.Names.{isPurpose}
+use Rattle.message.specs.Formed.{messageFormed}
 use Rattle.machine.specs.Own.{Own, ownOf}
 use Rattle.machine.specs.Named.{participantNamed}
 use Rattle.machine.proofs.Answers.{Answered}

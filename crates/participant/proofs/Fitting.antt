@@ -6,12 +6,11 @@ use Prim.Native.Nat.{ℕ, _-_, _≤_, _<_}
 use borrow.Author.Tests.{eq-eqb, ne-eqb, le-leb, lt-leb}
 use lib.Dec.{eqb, leb}
 use Rattle.book.specs.declared.Count.{Count}
-use Rattle.book.proofs.Tests.{and-both, both-and}
+use Rattle.lists.proofs.Tests.{and-both, both-and, and-first, and-second, and-rest}
 use Rattle.matrix.specs.Matrix.{notKnownRow}
 use Rattle.matrix.specs.Entries.{same, restZero}
-use Rattle.message.specs.Formed.{isNamed}
+use Rattle.book.specs.Names.{isNamed}
 use Rattle.message.proofs.Heads.{named-in}
-use Rattle.message.proofs.Tests.{and-first, and-second, and-rest}
 use Rattle.machine.specs.Own.{Own, hasCheckpoint, sentRow, newestPermitted}
 use Rattle.machine.specs.Named.{participantNamed}
 use Rattle.participant.specs.declared.Participant.{Participant}

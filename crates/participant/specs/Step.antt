@@ -3,7 +3,8 @@ use mathlib.Core.Bool.{Bool, false, _&&_}
 use Prim.Native.Nat.{ℕ, _-_}
 use lib.Dec.{eqb}
 use Rattle.book.specs.declared.Process.{Process}
-use Rattle.matrix.specs.Matrix.{pick, notKnownRow}
+use Rattle.lists.specs.Pick.{pick}
+use Rattle.matrix.specs.Matrix.{notKnownRow}
 use Rattle.matrix.specs.Entries.{diff, patch}
 use Rattle.message.specs.declared.Message.{Message}
 use Rattle.machine.specs.Own.{Own, sentRow, newestPermitted}

@@ -106,7 +106,7 @@ impl Participant {
                 state: no_participant(),
             };
         }
-        if !message::is_purpose(purpose) {
+        if !book::is_purpose(purpose) {
             return ParticipantFirst {
                 answer: Answer::Refused(11),
                 state: no_participant(),
@@ -154,7 +154,7 @@ impl Participant {
         if !machine::participant_named(shape.n, me, initiator) {
             return 10;
         }
-        if !message::is_purpose(self.purpose) {
+        if !book::is_purpose(self.purpose) {
             return 11;
         }
         let rows = book::rows_of(shape);

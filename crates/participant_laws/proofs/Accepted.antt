@@ -8,13 +8,13 @@ use borrow.Author.Tests.{eqb-true, eq-eqb, not-true}
 use lib.Dec.{eqb}
 use Rattle.book.specs.declared.Count.{Count}
 use Rattle.book.specs.Bounds.{mark}
-use Rattle.book.proofs.Tests.{and-both}
+use Rattle.lists.proofs.Tests.{and-both}
 use Rattle.consistency.specs.Known.{counters}
 use Rattle.matrix.specs.Matrix.{isPair, notKnownRow}
 use Rattle.matrix.specs.Entries.{same, restZero, patch}
 use Rattle.matrix.proofs.Theorems.{same-is-same, patch-not-raised}
 use Rattle.message.specs.declared.Message.{Message}
-use Rattle.message.specs.Formed.{isNamed}
+use Rattle.book.specs.Names.{isNamed}
 use Rattle.message.proofs.Heads.{named-in}
 use Rattle.machine.specs.Own.{Own, hasCheckpoint, sentRow, newestPermitted}
 use Rattle.machine.specs.Sends.{isTermination}

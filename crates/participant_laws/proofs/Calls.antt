@@ -10,7 +10,8 @@ use Rattle.book.proofs.Questions.{then-none}
 use Rattle.line_theory.proofs.Accepted.{accepted-size}
 use Rattle.matrix.specs.Entries.{allLower}
 use Rattle.message.specs.declared.Message.{Message}
-use Rattle.message.specs.Formed.{isPurpose, messageFormed}
+use Rattle.book.specs.Names.{isPurpose}
+use Rattle.message.specs.Formed.{messageFormed}
 use Rattle.message_laws.specs.Formed.{IsFormed}
 use Rattle.message_laws.proofs.Theorems.{read-is-formed}
 use Rattle.mail.specs.Outgoing.{roomQuestion}

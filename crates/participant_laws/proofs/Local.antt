@@ -6,9 +6,9 @@ use native.Mathlib.Omega.{arith}
 use lib.Dec.{eqb}
 use Rattle.book.specs.InTurn.{ask}
 use Rattle.book.specs.Check.{tablesQuestion}
-use Rattle.matrix.specs.Matrix.{pick}
+use Rattle.lists.specs.Pick.{pick}
 use Rattle.message.specs.declared.Message.{Message}
-use Rattle.message.specs.Formed.{isPurpose}
+use Rattle.book.specs.Names.{isPurpose}
 use Rattle.mail.specs.declared.Outgoing.{Outgoing}
 use Rattle.machine.specs.Own.{Own, ownOf, hasCheckpoint, newestPermitted}
 use Rattle.machine.specs.Sends.{isTermination}

@@ -7,7 +7,7 @@ use native.Mathlib.Omega.{arith}
 use borrow.Author.Tests.{eq-eqb, ne-eqb}
 use lib.Dec.{eqb}
 use Rattle.book.specs.declared.Count.{Count}
-use Rattle.line_theory.proofs.Over.{getD-tab}
+use Rattle.lists.proofs.Over.{getD-tab}
 use Rattle.consistency.specs.Known.{counters}
 use Rattle.matrix.specs.Matrix.{asMatrix, entry, row}
 use Rattle.matrix.specs.Entries.{differing, diff, patch}

@@ -5,7 +5,7 @@ use Prim.Native.Nat.{_-_}
 use lib.Dec.{eqb}
 use Rattle.matrix.specs.Entries.{allLower}
 use Rattle.message.specs.declared.Message.{Message}
-use Rattle.message.specs.Formed.{isPurpose}
+use Rattle.book.specs.Names.{isPurpose}
 use Rattle.message_laws.specs.Formed.{IsFormed}
 use Rattle.machine.specs.Own.{Own}
 use Rattle.machine.specs.Sends.{isTermination}

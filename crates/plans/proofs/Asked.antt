@@ -8,7 +8,7 @@ use Rattle.book.specs.InTurn.{ask}
 use Rattle.book.specs.Check.{tablesQuestion}
 use Rattle.book.proofs.Questions.{then-passed, then-refused, ask-no, kept-refused}
 use Rattle.line_theory.specs.OfTables.{viewOf}
-use Rattle.message.specs.Formed.{isPurpose}
+use Rattle.book.specs.Names.{isPurpose}
 use Rattle.restart.specs.Plan.{planned}
 use Rattle.restart.specs.Values.{orderOf}
 use Rattle.restart.specs.Calls.{noOrder, moveQuestion, orderGiven}

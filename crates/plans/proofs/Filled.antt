@@ -11,11 +11,11 @@ use lib.ListN.{length, getD, set, replicate, length-set, length-replicate, getD-
 use lib.Dec.{ltb}
 use Rattle.book.specs.declared.Checkpoint.{Checkpoint}
 use Rattle.book.specs.declared.Count.{Count}
-use Rattle.line_theory.proofs.Over.{tab-is}
+use Rattle.lists.proofs.Over.{tab-is}
 use Rattle.consistency.specs.Known.{counters}
 use Rattle.consistency.specs.Set.{chosen}
-use Rattle.consistency.proofs.Fills.{fill-more, fill-rest}
-use Rattle.matrix.specs.Matrix.{pick}
+use Rattle.lists.proofs.Fills.{fill-more, fill-rest}
+use Rattle.lists.specs.Pick.{pick}
 use Rattle.matrix.proofs.Rows.{filled-matrix}
 use Rattle.finder.specs.Line.{checkpoints}
 use Rattle.finder.proofs.Sixteen.{checkpoints-are}

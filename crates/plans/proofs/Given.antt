@@ -19,7 +19,7 @@ use Rattle.line_theory.proofs.Line.{line-absent}
 use Rattle.consistency.specs.Set.{chosen}
 use Rattle.consistency.specs.Given.{SetGiven, AllNamed}
 use Rattle.consistency.proofs.Calls.{set-given}
-use Rattle.matrix.specs.Matrix.{pick}
+use Rattle.lists.specs.Pick.{pick}
 use Rattle.finder.specs.declared.Line.{Line}
 use Rattle.finder.specs.Line.{checkpoints, noLine, lineFound, IsLineOf}
 use Rattle.finder.specs.Steps.{AbsentZero}

@@ -5,7 +5,7 @@ use Prim.Native.Nat.{ℕ, _-_, _≤_, _<_}
 use Rattle.book.specs.declared.Checkpoint.{Checkpoint}
 use Rattle.line_theory.specs.Sets.{View}
 use Rattle.consistency.specs.Set.{chosen}
-use Rattle.matrix.specs.Matrix.{pick}
+use Rattle.lists.specs.Pick.{pick}
 use Rattle.restart.specs.declared.Order.{Order}
 use Rattle.restart.specs.declared.Plan.{Plan}
 use Rattle.restart.specs.Plan.{restarts, lineCheckpoint, planned}

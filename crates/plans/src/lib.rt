@@ -16,7 +16,7 @@ ghost use Rattle.book.specs.View.{count, counterAt};
 ghost use Rattle.book.specs.InTurn.{answerTo};
 ghost use Rattle.book.specs.Fits.{Placed};
 ghost use Rattle.line_theory.specs.OfTables.{viewOf};
-ghost use Rattle.matrix.specs.Matrix.{pick};
+ghost use Rattle.lists.specs.Pick.{pick};
 ghost use Rattle.consistency.specs.Set.{chosen};
 ghost use Rattle.consistency.specs.Given.{AllNamed};
 ghost use Rattle.finder.specs.Line.{checkpoints};
@@ -178,7 +178,7 @@ pub fn question(shape: Shape, sent: &[Counter], received: &[Counter], purpose: u
     if question != 0 {
         return question;
     }
-    if !message::is_purpose(purpose) {
+    if !book::is_purpose(purpose) {
         return 11;
     }
     0

@@ -10,7 +10,7 @@ use lib.Seq.{sets, length-sets, length-take-le}
 use Rattle.book.specs.Tables.{padded, tableRow, processRows, rowsFrom}
 use Rattle.book.specs.Layout.{width, checkpointsIn, processesIn}
 use Rattle.book.proofs.Rows.{length-row}
-use Rattle.book.proofs.Stores.{sets-append}
+use Rattle.lists.proofs.Stores.{sets-append}
 use Rattle.reader.specs.Parts.{emptyTable, withRows, RowsClear}
 use Rattle.reader.proofs.Stores.{clear-past, empty-length, empty-clear, empty-rows}
 

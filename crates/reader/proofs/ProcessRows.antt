@@ -13,7 +13,7 @@ use lib.Dec.{eqb}
 use Rattle.book.specs.Layout.{width, checkpointsIn}
 use Rattle.book.specs.Tables.{tableRow, processRows}
 use Rattle.book.proofs.Rows.{length-row}
-use Rattle.book.proofs.Stores.{sets-append}
+use Rattle.lists.proofs.Stores.{sets-append}
 use Rattle.reader.specs.Parts.{RowClear, RowsClear, withRows}
 use Rattle.reader.proofs.Stores.{clear-past}
 

@@ -13,10 +13,10 @@ use Rattle.book.specs.declared.Process.{Process}
 use Rattle.book.specs.declared.Checkpoint.{Checkpoint}
 use Rattle.book.specs.InTurn.{ask, answerTo}
 use Rattle.book.specs.Check.{tablesQuestion}
-use Rattle.line_theory.specs.Over.{allTo}
+use Rattle.lists.specs.Over.{allTo}
 use Rattle.line_theory.specs.Sets.{View, atFault, consistent}
 use Rattle.line_theory.specs.OfTables.{viewOf}
-use Rattle.line_theory.proofs.Over.{all-in}
+use Rattle.lists.proofs.Over.{all-in}
 use Rattle.consistency.specs.declared.SetAnswer.{SetAnswer}
 use Rattle.consistency.specs.declared.SetAnswer.the-variants.{Consistent, AtFault, Refused}
 use Rattle.consistency.specs.Set.{chosen, testQuestion, Tested, IsAtFault}

@@ -12,8 +12,8 @@ use Rattle.book.specs.declared.Answer.{Answer}
 use Rattle.book.specs.declared.Checkpoint.{Checkpoint}
 use Rattle.book.specs.InTurn.{_then_, ask, answerTo, unlessRefused}
 use Rattle.book.proofs.Questions.{then-passed, then-refused, asked-yes, kept-passed, kept-refused}
-use Rattle.book.proofs.Tests.{and-both}
-use Rattle.line_theory.proofs.Over.{length-tab}
+use Rattle.lists.proofs.Tests.{and-both}
+use Rattle.lists.proofs.Over.{length-tab}
 use Rattle.consistency.specs.Set.{chosen}
 use Rattle.words.specs.Words.{wrongLength, isLong}
 use Rattle.words.specs.Plain.{numberOf, numberWords, setWords}

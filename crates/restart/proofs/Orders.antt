@@ -12,7 +12,7 @@ use Rattle.line_theory.specs.OfTables.{viewOf}
 use Rattle.line_theory.proofs.Accepted.{accepted-size}
 use Rattle.consistency.specs.Set.{chosen}
 use Rattle.finder.specs.Line.{checkpoints}
-use Rattle.message.specs.Formed.{isPurpose}
+use Rattle.book.specs.Names.{isPurpose}
 use Rattle.shown.specs.Statements.{AreAccepted}
 use Rattle.restart.specs.declared.Order.{Order}
 use Rattle.restart.specs.Plan.{Planned, planned}

@@ -7,7 +7,7 @@ use Rattle.book.specs.Bounds.{mark}
 use Rattle.line_theory.specs.Sets.{View, IsBook, IsSet, IsLine}
 use Rattle.line_theory.specs.Search.{line}
 use Rattle.line_theory.proofs.Theorems.{line-is-line}
-use Rattle.matrix.specs.Matrix.{pick}
+use Rattle.lists.specs.Pick.{pick}
 use Rattle.restart.proofs.Values.{pick-either}
 use Rattle.restart.specs.Plan.{Planned, advances, restarts, lineCheckpoint, planned}
 

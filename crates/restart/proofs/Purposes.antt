@@ -7,8 +7,8 @@ use native.Mathlib.Decide.{ℕ-discrete}
 use native.Mathlib.Omega.{arith}
 use borrow.Author.Tests.{leb-true}
 use lib.Dec.{leb}
-use Rattle.book.proofs.Tests.{and-both}
-use Rattle.message.specs.Formed.{isPurpose}
+use Rattle.lists.proofs.Tests.{and-both}
+use Rattle.book.specs.Names.{isPurpose}
 use Rattle.restart.specs.Plan.{advances, restarts}
 
 pub three-purposes : (purpose : ℕ) → isPurpose purpose ≡ true → (purpose ≡ 2) ⊎ ((purpose ≡ 1) ⊎ (purpose ≡ 3))

@@ -10,10 +10,11 @@ use lib.ListN.{length, getD, replicate, length-append, length-replicate, getD-re
 use lib.Seq.{getD-append-add}
 use lib.Dec.{ltb}
 use Rattle.book.specs.Tables.{padded}
-use Rattle.line_theory.specs.Over.{tab}
-use Rattle.line_theory.proofs.Over.{length-tab, getD-tab, tab-is}
+use Rattle.lists.specs.Over.{tab}
+use Rattle.lists.proofs.Over.{length-tab, getD-tab, tab-is}
 use Rattle.consistency.specs.Set.{chosen}
-use Rattle.matrix.specs.Matrix.{pick, asMatrix, entry}
+use Rattle.lists.specs.Pick.{pick}
+use Rattle.matrix.specs.Matrix.{asMatrix, entry}
 use Rattle.matrix.proofs.Rows.{entry-of-matrix}
 use Rattle.finder.specs.Line.{checkpoints}
 use Rattle.finder.proofs.Sixteen.{chosen-there}

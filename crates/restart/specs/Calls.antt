@@ -10,7 +10,7 @@ use Rattle.book.specs.InTurn.{_then_, ask, unlessRefused}
 use Rattle.book.specs.Check.{tablesQuestion}
 use Rattle.line_theory.specs.OfTables.{viewOf}
 use Rattle.finder.specs.Line.{noLine}
-use Rattle.message.specs.Formed.{isPurpose}
+use Rattle.book.specs.Names.{isPurpose}
 use Rattle.shown.specs.Shown.{bookShown}
 use Rattle.restart.specs.declared.Order.{Order}
 use Rattle.restart.specs.Plan.{planned, moved}

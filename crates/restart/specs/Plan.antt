@@ -5,7 +5,7 @@ use Prim.Native.Nat.{ℕ, _+_, _-_}
 use lib.Dec.{eqb}
 use Rattle.line_theory.specs.Sets.{View}
 use Rattle.line_theory.specs.Search.{line}
-use Rattle.matrix.specs.Matrix.{pick}
+use Rattle.lists.specs.Pick.{pick}
 
 -- 01's purposes: "1 advance the line, 2 restart only, 3 advance and restart". "With purpose 1 or 3 the tables' line becomes the
 -- oldest" (K's Adv)

@@ -4,9 +4,10 @@ use Prim.Native.Nat.{ℕ}
 use lib.Dec.{ltb}
 use Rattle.book.specs.declared.Count.{Count}
 use Rattle.book.specs.Bounds.{mostProcesses}
-use Rattle.line_theory.specs.Over.{tab}
+use Rattle.lists.specs.Over.{tab}
 use Rattle.finder.specs.Line.{checkpoints}
-use Rattle.matrix.specs.Matrix.{pick, asMatrix}
+use Rattle.lists.specs.Pick.{pick}
+use Rattle.matrix.specs.Matrix.{asMatrix}
 use Rattle.restart.specs.declared.Order.{Order}
 use Rattle.restart.specs.declared.Plan.{Plan}
 use Rattle.restart.specs.Plan.{Planned}

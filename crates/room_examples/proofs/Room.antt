@@ -12,9 +12,9 @@ use lib.Dec.{eqb}
 use Rattle.book.specs.declared.Shape.{Shape}
 use Rattle.book.specs.Read.{readQuestion, noShape, shapeRead}
 use Rattle.book.proofs.Questions.{kept-refused}
-use Rattle.book.proofs.Tests.{and-both}
-use Rattle.line_theory.specs.Over.{allTo}
-use Rattle.line_theory.proofs.Over.{all-in}
+use Rattle.lists.proofs.Tests.{and-both}
+use Rattle.lists.specs.Over.{allTo}
+use Rattle.lists.proofs.Over.{all-in}
 use Rattle.strands.specs.Strands.{roomForAll}
 use Rattle.session.specs.Workers.{waitsOn}
 use Rattle.session.specs.declared.Session.{Session}

@@ -15,7 +15,7 @@ use Rattle.book.specs.Layout.{width, Book}
 use Rattle.book.specs.InTurn.{_then_, ask}
 use Rattle.book.specs.Questions.{sizeQuestion, lengthQuestion, allZero, unusedFrom, unusedZero}
 use Rattle.book.proofs.Questions.{then-none, then-both, asked-yes, ask-yes}
-use Rattle.book.proofs.Tests.{and-both, both-and}
+use Rattle.lists.proofs.Tests.{and-both, both-and}
 use Rattle.round_trips.proofs.Zeros.{zeros, length-padded, padded-take}
 use Rattle.book.proofs.Counts.{lengths-taken, lengths-given, size-taken, size-given, few-in-all}
 use Rattle.round_trips.proofs.Books.{Good}

@@ -10,7 +10,7 @@ use lib.Dec.{eqb}
 use lib.Seq.{length-take-le}
 use Rattle.book.specs.Tables.{padded}
 use Rattle.book.specs.Questions.{allZero}
-use Rattle.book.proofs.Tests.{and-both, both-and}
+use Rattle.lists.proofs.Tests.{and-both, both-and}
 
 pub zeros : (k : ℕ) → allZero (replicate k 0) ≡ true
 unfolding allZero

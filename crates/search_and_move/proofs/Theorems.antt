@@ -12,7 +12,7 @@ use Rattle.line_theory.specs.OfTables.{viewOf}
 use Rattle.line_theory.proofs.Line.{line-absent}
 use Rattle.consistency.specs.Set.{chosen}
 use Rattle.finder.specs.Line.{checkpoints, noLine}
-use Rattle.message.specs.Formed.{isPurpose}
+use Rattle.book.specs.Names.{isPurpose}
 use Rattle.session.specs.Workers.{standsOn, hasEnded}
 use Rattle.demand3.specs.Statement.{Beginning, shapeLeft, sentLeft, receivedLeft, viewLeft, IsAccepted, after}
 use Rattle.demand3.proofs.Start as start

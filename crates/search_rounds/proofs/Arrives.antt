@@ -6,7 +6,7 @@ use Prim.Native.Nat.{ℕ, _-_, _<_}
 use native.Mathlib.Omega.{arith}
 use lib.Dec.{eqb}
 use Rattle.book.specs.declared.Process.{Process}
-use Rattle.line_theory.proofs.Over.{getD-tab}
+use Rattle.lists.proofs.Over.{getD-tab}
 use Rattle.consistency.specs.Known.{counters}
 use Rattle.matrix.specs.Matrix.{row}
 use Rattle.matrix.specs.Entries.{patch, allLower}

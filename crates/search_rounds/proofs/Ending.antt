@@ -11,7 +11,7 @@ use lib.Dec.{eqb}
 use Rattle.book.specs.declared.Count.{Count}
 use Rattle.book.specs.declared.Process.{Process}
 use Rattle.book.specs.Bounds.{mark}
-use Rattle.line_theory.specs.Over.{sumTo}
+use Rattle.lists.specs.Over.{sumTo}
 use Rattle.line_theory.specs.Sets.{View}
 use Rattle.line_theory.specs.Search.{permitted, newest, sentTo}
 use Rattle.line_theory.proofs.Tests.{permitted-in, permitted-out}

@@ -4,8 +4,8 @@ use Prim.Native.Nat.{ℕ, zero, suc, _+_, _-_, _*_, _≤_, _<_}
 use native.Mathlib.Nat.{mul-add, mul-le-mul-left}
 use native.Mathlib.Decide.{decLt}
 use native.Mathlib.Omega.{arith}
-use Rattle.line_theory.specs.Over.{sumTo}
-use Rattle.line_theory.proofs.Over.{sum-same}
+use Rattle.lists.specs.Over.{sumTo}
+use Rattle.lists.proofs.Over.{sum-same}
 use Rattle.session_theory.proofs.Search.{Search, size, lineIn, Between, height}
 
 -- a set that is nowhere above another, and somewhere below it, is less high

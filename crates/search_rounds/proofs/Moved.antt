@@ -5,7 +5,7 @@ use mathlib.Core.List.{List}
 use mathlib.Core.Logic.{_⊎_}
 use Prim.Native.Nat.{ℕ, _+_}
 use lib.ListN.{set}
-use Rattle.matrix.specs.Matrix.{pick}
+use Rattle.lists.specs.Pick.{pick}
 use Rattle.message.specs.declared.Message.{Message}
 use Rattle.mail.specs.declared.Outgoing.{Outgoing}
 use Rattle.machine.specs.Own.{Own}

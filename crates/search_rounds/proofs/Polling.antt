@@ -9,10 +9,11 @@ use native.Mathlib.Omega.{arith}
 use borrow.Author.Tests.{eqb-false}
 use lib.ListN.{set}
 use lib.Dec.{eqb}
-use Rattle.line_theory.specs.Over.{sumTo}
-use Rattle.line_theory.proofs.Over.{all-witness}
+use Rattle.lists.specs.Over.{sumTo}
+use Rattle.lists.proofs.Over.{all-witness}
 use Rattle.consistency.specs.Known.{counters}
-use Rattle.matrix.specs.Matrix.{pick, entry, column}
+use Rattle.lists.specs.Pick.{pick}
+use Rattle.matrix.specs.Matrix.{entry, column}
 use Rattle.matrix.specs.Entries.{patch, same}
 use Rattle.message.specs.declared.Message.{Message}
 use Rattle.mail.specs.declared.Outgoing.{Outgoing}

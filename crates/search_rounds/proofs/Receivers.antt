@@ -4,8 +4,8 @@ use mathlib.Core.Bool.{Bool, true, false, not, _&&_, true≢false}
 use Prim.Native.Nat.{ℕ, _-_, _<_}
 use borrow.Author.Tests.{not-true}
 use Rattle.book.specs.declared.Process.{Process}
-use Rattle.book.proofs.Tests.{and-both}
-use Rattle.line_theory.proofs.Over.{getD-tab}
+use Rattle.lists.proofs.Tests.{and-both}
+use Rattle.lists.proofs.Over.{getD-tab}
 use Rattle.matrix.specs.Matrix.{column}
 use Rattle.matrix.specs.Entries.{same}
 use Rattle.matrix.proofs.Theorems.{same-is-same}

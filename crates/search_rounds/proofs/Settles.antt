@@ -8,8 +8,8 @@ use native.Mathlib.Omega.{arith}
 use borrow.Author.Tests.{ne-eqb}
 use lib.Dec.{eqb}
 use Rattle.book.specs.declared.Process.{Process}
-use Rattle.line_theory.specs.Over.{sumTo}
-use Rattle.line_theory.proofs.Over.{sum-at}
+use Rattle.lists.specs.Over.{sumTo}
+use Rattle.lists.proofs.Over.{sum-at}
 use Rattle.matrix.specs.Matrix.{entry, row, column}
 use Rattle.matrix.proofs.Theorems.{other-rows}
 use Rattle.message.specs.declared.Message.{Message}

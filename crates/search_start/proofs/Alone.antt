@@ -5,7 +5,7 @@ use Prim.Native.Nat.{ℕ, _≤_, _<_}
 use native.Mathlib.Omega.{arith}
 use lib.Dec.{eqb}
 use Rattle.book.specs.Bounds.{mark}
-use Rattle.line_theory.proofs.Over.{getD-tab}
+use Rattle.lists.proofs.Over.{getD-tab}
 use Rattle.line_theory.proofs.Theorems.{consistent-above-is-line}
 use Rattle.mail.specs.Outgoing.{bytesTo}
 use Rattle.machine.specs.Flags.{flag, nobody}

@@ -10,7 +10,8 @@ use Rattle.book.specs.declared.Count.{Count}
 use Rattle.book.specs.declared.Process.{Process}
 use Rattle.book.specs.Bounds.{mark}
 use Rattle.consistency.specs.Known.{counters}
-use Rattle.matrix.specs.Matrix.{pick, row, column, notKnownAt, notKnownRow}
+use Rattle.lists.specs.Pick.{pick}
+use Rattle.matrix.specs.Matrix.{row, column, notKnownAt, notKnownRow}
 use Rattle.matrix.specs.Entries.{patch}
 use Rattle.matrix.proofs.Rows.{counter-of-row}
 use Rattle.message.specs.declared.Message.{Message}

@@ -9,7 +9,7 @@ use native.Mathlib.Omega.{arith}
 use borrow.Author.Tests.{lt-ltb, ne-eqb}
 use lib.Dec.{eqb}
 use Rattle.book.specs.declared.Process.{Process}
-use Rattle.line_theory.proofs.Over.{getD-tab}
+use Rattle.lists.proofs.Over.{getD-tab}
 use Rattle.machine.specs.Own.{Own}
 use Rattle.machine.specs.Named.{isParticipant}
 use Rattle.machine.specs.Flags.{flag, someone, participants}

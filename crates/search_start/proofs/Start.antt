@@ -7,8 +7,8 @@ use native.Mathlib.Omega.{arith}
 use lib.ListN.{getD, getD-replicate}
 use lib.Dec.{eqb}
 use Rattle.book.specs.declared.Process.{Process}
-use Rattle.line_theory.proofs.Over.{getD-tab, length-tab}
-use Rattle.matrix.specs.Matrix.{pick}
+use Rattle.lists.proofs.Over.{getD-tab, length-tab}
+use Rattle.lists.specs.Pick.{pick}
 use Rattle.mail.specs.declared.Outgoing.{Outgoing}
 use Rattle.mail.specs.Outgoing.{goesTo, noLengths}
 use Rattle.machine.specs.Own.{Own}

@@ -9,10 +9,11 @@ use native.Mathlib.Omega.{arith}
 use borrow.Author.Tests.{eq-eqb, ne-eqb}
 use lib.Dec.{eqb}
 use Rattle.book.specs.Bounds.{mark, mostProcesses}
-use Rattle.line_theory.specs.Over.{sumTo}
+use Rattle.lists.specs.Over.{sumTo}
 use Rattle.line_theory.specs.Sets.{newerThan}
-use Rattle.line_theory.proofs.Over.{sum-ext, sum-le}
-use Rattle.matrix.specs.Matrix.{pick, entry, isPair, notKnownAt}
+use Rattle.lists.proofs.Over.{sum-ext, sum-le}
+use Rattle.lists.specs.Pick.{pick}
+use Rattle.matrix.specs.Matrix.{entry, isPair, notKnownAt}
 use Rattle.mail.specs.Outgoing.{bytesTo}
 use Rattle.machine.specs.Own.{Own}
 use Rattle.machine_laws.specs.Own.{IsOwn}

@@ -7,7 +7,7 @@ use native.Mathlib.Omega.{arith}
 use borrow.Author.Tests.{eq-eqb, ne-eqb, eqb-false, eqb-true}
 use lib.Dec.{eqb}
 use Rattle.book.specs.declared.Process.{Process}
-use Rattle.line_theory.specs.Over.{sumTo}
+use Rattle.lists.specs.Over.{sumTo}
 use Rattle.matrix.specs.Matrix.{column}
 use Rattle.matrix.specs.Entries.{patch}
 use Rattle.message.specs.declared.Message.{Message}

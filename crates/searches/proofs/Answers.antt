@@ -13,11 +13,11 @@ use Rattle.book.specs.View.{count}
 use Rattle.book.specs.InTurn.{_then_, ask, answerTo}
 use Rattle.book.specs.Check.{tablesQuestion}
 use Rattle.book.proofs.Questions.{then-passed, then-refused, answer-passed, kept-passed, kept-refused}
-use Rattle.line_theory.specs.Over.{sumTo}
+use Rattle.lists.specs.Over.{sumTo}
 use Rattle.line_theory.specs.Sets.{newerThan}
 use Rattle.consistency.specs.Set.{chosen}
 use Rattle.finder.specs.Line.{checkpoints, noLine}
-use Rattle.message.specs.Formed.{isNamed, isPurpose}
+use Rattle.book.specs.Names.{isNamed, isPurpose}
 use Rattle.session.specs.declared.Session.{Session}
 use Rattle.session.specs.Workers.{standsOn}
 use Rattle.session.specs.Turns.{Ongoing}

@@ -8,7 +8,7 @@ use native.Mathlib.Omega.{arith}
 use native.Mathlib.Numerals.{add-one}
 use borrow.Author.Tests.{eq-eqb, ne-eqb}
 use Rattle.book.specs.declared.Process.{Process}
-use Rattle.book.proofs.Loops.{below-more}
+use Rattle.lists.proofs.Fills.{below-more}
 use Rattle.strands.specs.Strands.{lengthOn}
 use Rattle.session.specs.declared.Session.{Session}
 use Rattle.session.specs.Workers.{waitsOn}

@@ -15,7 +15,7 @@ use Rattle.book.specs.InTurn.{_then_, ask, answerTo}
 use Rattle.book.specs.Read.{bookRead, noShape, readQuestion, shapeRead, sentRead, receivedRead}
 use Rattle.book.specs.Tables.{sentTable, receivedTable}
 use Rattle.book.proofs.Questions.{then-none, then-passed, then-refused, answer-passed, kept-passed, kept-refused}
-use Rattle.message.specs.Formed.{isNamed, isPurpose}
+use Rattle.book.specs.Names.{isNamed, isPurpose}
 use Rattle.session.specs.declared.Session.{Session}
 use Rattle.session.specs.Calls.{noSession}
 use Rattle.session.specs.Turns.{Ongoing, started, afterTurn, afterTurns}

@@ -12,19 +12,19 @@ use Rattle.book.specs.declared.Shape.{Shape}
 use Rattle.book.specs.declared.Checkpoint.{Checkpoint}
 use Rattle.book.specs.View.{count}
 use Rattle.book.proofs.Sums.{sum-more, sum-take}
-use Rattle.line_theory.specs.Over.{sumTo}
+use Rattle.lists.specs.Over.{sumTo}
 use Rattle.line_theory.specs.Sets.{newerThan}
-use Rattle.line_theory.proofs.Over.{sum-ext}
+use Rattle.lists.proofs.Over.{sum-ext, at-place}
 use Rattle.line_theory.proofs.Accepted.{accepted-few}
 use Rattle.consistency.specs.Set.{chosen}
-use Rattle.consistency.proofs.Fills.{fill-more}
+use Rattle.lists.proofs.Fills.{fill-more}
 use Rattle.finder.specs.Line.{checkpoints}
 use Rattle.finder.proofs.Sixteen.{checkpoints-are, chosen-there}
-use Rattle.matrix.specs.Matrix.{pick}
+use Rattle.lists.specs.Pick.{pick}
 use Rattle.participant.specs.declared.Participant.{Participant}
 use Rattle.participant.specs.Calls.{noParticipant}
 use Rattle.initiator.specs.declared.Initiator.{Initiator}
-use Rattle.session.proofs.Places.{beyond, at-place}
+use Rattle.session.proofs.Places.{beyond}
 use Rattle.session_theory.proofs.Search.{Search, IsSearch, size, viewIn}
 use Rattle.session_theory.proofs.Facts.{few, book-is, line-is}
 use Rattle.demand3.proofs.Purposes.{restarts}

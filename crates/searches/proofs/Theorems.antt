@@ -11,7 +11,7 @@ use Rattle.book.specs.Bounds.{mostProcesses}
 use Rattle.book.specs.InTurn.{_then_, ask}
 use Rattle.book.specs.Check.{tablesQuestion}
 use Rattle.book.proofs.Questions.{then-none, asked-yes}
-use Rattle.message.specs.Formed.{isNamed, isPurpose}
+use Rattle.book.specs.Names.{isNamed, isPurpose}
 use Rattle.session.specs.Workers.{standsOn}
 use Rattle.session.specs.Turns.{Ongoing}
 use Rattle.session_theory.proofs.Search.{Search, IsSearch, most}

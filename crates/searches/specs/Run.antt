@@ -6,7 +6,7 @@ use Rattle.book.specs.declared.Shape.{Shape}
 use Rattle.book.specs.declared.Process.{Process}
 use Rattle.book.specs.InTurn.{_then_, ask, unlessRefused}
 use Rattle.book.specs.Read.{readQuestion, noShape, shapeRead, sentRead, receivedRead}
-use Rattle.message.specs.Formed.{isNamed, isPurpose}
+use Rattle.book.specs.Names.{isNamed, isPurpose}
 use Rattle.session.specs.declared.Session.{Session}
 use Rattle.session.specs.Calls.{noSession}
 use Rattle.demand3.specs.Statement.{Beginning, Searches, after, HoldsAfter}

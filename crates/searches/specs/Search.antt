@@ -16,8 +16,8 @@ use Rattle.line_theory.specs.Sets.{View, newerThan}
 use Rattle.line_theory.specs.Search.{line}
 use Rattle.line_theory.specs.OfTables.{viewOf}
 use Rattle.finder.specs.Line.{checkpoints, noLine}
-use Rattle.matrix.specs.Matrix.{pick}
-use Rattle.message.specs.Formed.{isNamed, isPurpose}
+use Rattle.lists.specs.Pick.{pick}
+use Rattle.book.specs.Names.{isNamed, isPurpose}
 use Rattle.session.specs.declared.Session.{Session}
 use Rattle.session.specs.Workers.{standsOn, hasEnded}
 use Rattle.demand3.specs.Statement.{messageWaits}

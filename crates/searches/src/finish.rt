@@ -7,7 +7,7 @@ use session::Session;
 ghost use mathlib.Core.Path.{_≡_};
 ghost use Prim.Native.Nat.{_-_, _≤_};
 ghost use Rattle.book.specs.View.{count};
-ghost use Rattle.line_theory.specs.Over.{sumTo};
+ghost use Rattle.lists.specs.Over.{sumTo};
 ghost use Rattle.line_theory.specs.OfTables.{viewOf};
 ghost use Rattle.consistency.specs.Set.{chosen};
 ghost use Rattle.finder.specs.Line.{checkpoints};

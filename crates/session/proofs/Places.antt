@@ -7,7 +7,7 @@ use native.Mathlib.Omega.{arith}
 use borrow.Author.Tests.{ltb-true}
 use lib.ListN.{length, getD}
 use lib.Dec.{ltb, eqb}
-use Rattle.book.proofs.Tests.{and-both}
+use Rattle.lists.proofs.Tests.{and-both}
 use Rattle.machine.specs.Named.{isParticipant}
 use Rattle.participant.specs.declared.Participant.{Participant}
 use Rattle.participant.specs.declared.Stage.the-variants.{Before}
@@ -25,12 +25,6 @@ beyond =
       row = [];
       column = [];
     }
-
--- a place that there is holds the same whatever would stand beyond the end
-pub at-place : {A : Type 0} (d e : A) (l : List A) (k : ℕ) → k < length l → getD l k d ≡ getD l k e
-at-place d e [] k h = absurd (omega arith)
-at-place d e (x ∷ l) zero h = refl
-at-place d e (x ∷ l) (suc k) h = at-place d e l k (omega arith)
 
 -- a participant is a process that there is
 pub participant-there : (n initiator k : ℕ) → isParticipant n initiator k ≡ true → k < n

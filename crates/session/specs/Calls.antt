@@ -8,7 +8,7 @@ use Rattle.book.specs.declared.Process.{Process}
 use Rattle.book.specs.Bounds.{mostProcesses}
 use Rattle.book.specs.InTurn.{_then_, ask, unlessRefused}
 use Rattle.book.specs.Check.{tablesQuestion}
-use Rattle.message.specs.Formed.{isNamed, isPurpose}
+use Rattle.book.specs.Names.{isNamed, isPurpose}
 use Rattle.mail.specs.Outgoing.{noLengths}
 use Rattle.machine.specs.Named.{participantNamed}
 use Rattle.participant.specs.Calls.{noParticipant}

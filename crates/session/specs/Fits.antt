@@ -6,10 +6,11 @@ use lib.ListN.{length}
 use lib.Dec.{ltb, leb, eqb}
 use Rattle.book.specs.declared.Shape.{Shape}
 use Rattle.book.specs.Bounds.{mostProcesses}
-use Rattle.line_theory.specs.Over.{allTo}
-use Rattle.matrix.specs.Matrix.{pick, asRow}
+use Rattle.lists.specs.Over.{allTo}
+use Rattle.lists.specs.Pick.{pick}
+use Rattle.matrix.specs.Matrix.{asRow}
 use Rattle.matrix.specs.Entries.{same}
-use Rattle.message.specs.Formed.{isNamed, isPurpose}
+use Rattle.book.specs.Names.{isNamed, isPurpose}
 use Rattle.machine.specs.Own.{ownOf}
 use Rattle.machine.specs.Named.{participantNamed, isParticipant, countLimit}
 use Rattle.machine.specs.Flags.{flag}

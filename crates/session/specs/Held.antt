@@ -5,7 +5,7 @@ use mathlib.Core.List.{List}
 use Prim.Native.Nat.{ℕ, suc}
 use lib.ListN.{length, getD}
 use lib.Dec.{eqb}
-use Rattle.matrix.specs.Matrix.{pick}
+use Rattle.lists.specs.Pick.{pick}
 use Rattle.message.specs.declared.Message.{Message}
 use Rattle.message.specs.Formed.{numbersIn}
 use Rattle.machine.specs.Sends.{isTermination}

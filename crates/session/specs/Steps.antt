@@ -6,8 +6,9 @@ use lib.ListN.{set}
 use Rattle.book.specs.declared.Shape.{Shape}
 use Rattle.book.specs.declared.Process.{Process}
 use Rattle.book.specs.Bounds.{mostProcesses}
-use Rattle.line_theory.specs.Over.{tab}
-use Rattle.matrix.specs.Matrix.{pick, row}
+use Rattle.lists.specs.Over.{tab}
+use Rattle.lists.specs.Pick.{pick}
+use Rattle.matrix.specs.Matrix.{row}
 use Rattle.mail.specs.declared.Outgoing.{Outgoing}
 use Rattle.mail.specs.Outgoing.{goesTo, noLengths}
 use Rattle.machine.specs.Own.{ownOf}

@@ -7,8 +7,8 @@ use lib.Dec.{eqb}
 use Rattle.book.specs.declared.Shape.{Shape}
 use Rattle.book.specs.declared.Process.{Process}
 use Rattle.book.specs.Bounds.{mostProcesses}
-use Rattle.line_theory.specs.Over.{allTo}
-use Rattle.matrix.specs.Matrix.{pick}
+use Rattle.lists.specs.Over.{allTo}
+use Rattle.lists.specs.Pick.{pick}
 use Rattle.machine.specs.Flags.{flag, someone}
 use Rattle.session.specs.declared.Session.{Session}
 use Rattle.session.specs.Held.{waitingBytes, held, isReport}

@@ -3,7 +3,7 @@ use mathlib.Core.Bool.{Bool, true, false, not}
 use Prim.Native.Nat.{ℕ, _-_}
 use lib.ListN.{getD}
 use lib.Dec.{eqb}
-use Rattle.matrix.specs.Matrix.{pick}
+use Rattle.lists.specs.Pick.{pick}
 use Rattle.participant.specs.declared.Participant.{Participant}
 use Rattle.participant.specs.declared.Stage.{Stage}
 use Rattle.participant.specs.declared.Stage.the-variants.{Before, Searching, Ended}

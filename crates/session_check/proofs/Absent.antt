@@ -7,10 +7,10 @@ use borrow.Author.Tests.{eq-eqb, ne-eqb}
 use lib.ListN.{replicate}
 use lib.Dec.{eqb}
 use Rattle.book.specs.declared.Count.{Count}
-use Rattle.line_theory.specs.Over.{tabFrom}
+use Rattle.lists.specs.Over.{tabFrom}
 use Rattle.matrix.specs.Matrix.{asRow}
 use Rattle.matrix.specs.Entries.{same}
-use Rattle.message.proofs.Tests.{and-first, and-rest}
+use Rattle.lists.proofs.Tests.{and-first, and-rest}
 use Rattle.participant.specs.declared.Participant.{Participant}
 use Rattle.session.specs.Fits.{isBefore, isAbsent}
 

@@ -11,7 +11,7 @@ use lib.Dec.{eqb}
 use Rattle.varint.specs.Sequence.{Numbers}
 use Rattle.book.specs.InTurn.{_then_, ask}
 use Rattle.book.specs.Read.{numbersFrom}
-use Rattle.matrix.specs.Matrix.{pick}
+use Rattle.lists.specs.Pick.{pick}
 use Rattle.matrix.specs.Entries.{allLower}
 use Rattle.message.specs.declared.Head.{Head}
 use Rattle.message.specs.declared.Message.{Message}

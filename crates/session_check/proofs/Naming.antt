@@ -5,13 +5,14 @@ use mathlib.Core.List.{List}
 use Prim.Native.Nat.{ℕ, _<_}
 use native.Mathlib.Omega.{arith}
 use lib.ListN.{length, getD}
-use Rattle.message.specs.Formed.{isNamed, isPurpose}
+use Rattle.book.specs.Names.{isNamed, isPurpose}
 use Rattle.machine.specs.Named.{participantNamed}
 use Rattle.participant.specs.declared.Participant.{Participant}
 use Rattle.participant.specs.Calls.{noParticipant}
 use Rattle.session.specs.declared.Session.{Session}
 use Rattle.session.specs.Fits.{isAbsent, sessionNamed, sessionPurposes}
-use Rattle.session.proofs.Places.{beyond, at-place}
+use Rattle.lists.proofs.Over.{at-place}
+use Rattle.session.proofs.Places.{beyond}
 use Rattle.session_check.specs.Parts.{at, allNamed, allPurposes}
 use Rattle.session_check.proofs.Chains.{first-of-three, second-of-three, third-of-three}
 

@@ -7,9 +7,9 @@ use borrow.Author.Tests.{eq-eqb, ne-eqb, lt-ltb, le-ltb}
 use lib.ListN.{length}
 use lib.Dec.{eqb, ltb}
 use Rattle.book.specs.declared.Shape.{Shape}
-use Rattle.book.proofs.Tests.{and-both}
-use Rattle.line_theory.specs.Over.{allTo}
-use Rattle.matrix.specs.Matrix.{pick}
+use Rattle.lists.proofs.Tests.{and-both}
+use Rattle.lists.specs.Over.{allTo}
+use Rattle.lists.specs.Pick.{pick}
 use Rattle.machine.specs.Own.{ownOf}
 use Rattle.machine.specs.Named.{isParticipant, countLimit}
 use Rattle.machine.specs.Flags.{flag}

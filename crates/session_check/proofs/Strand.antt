@@ -4,9 +4,8 @@ use mathlib.Core.Bool.{Bool, true, false, not, _&&_, _||_}
 use Prim.Native.Nat.{ℕ, _+_, _≤_, _<_}
 use borrow.Author.Tests.{eq-eqb, ne-eqb, le-leb, lt-leb, leb-true}
 use lib.Dec.{leb}
-use Rattle.matrix.specs.Matrix.{pick}
-use Rattle.book.proofs.Tests.{and-both}
-use Rattle.message.proofs.Tests.{and-first, and-rest}
+use Rattle.lists.specs.Pick.{pick}
+use Rattle.lists.proofs.Tests.{and-both, and-first, and-rest}
 use Rattle.participant.specs.declared.Stage.{Stage}
 use Rattle.strands.specs.Strands.{slotSize, strandStart}
 use Rattle.session.specs.declared.Waiting.{Waiting}

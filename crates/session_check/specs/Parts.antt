@@ -11,9 +11,9 @@ use Rattle.book.specs.declared.Shape.{Shape}
 use Rattle.book.specs.Bounds.{mostProcesses}
 use Rattle.book.specs.View.{firstRows}
 use Rattle.book.specs.Check.{tablesQuestion}
-use Rattle.line_theory.specs.Over.{allTo}
-use Rattle.matrix.specs.Matrix.{pick}
-use Rattle.message.specs.Formed.{isPurpose}
+use Rattle.lists.specs.Over.{allTo}
+use Rattle.lists.specs.Pick.{pick}
+use Rattle.book.specs.Names.{isPurpose}
 use Rattle.machine.specs.Own.{ownOf}
 use Rattle.machine.specs.Named.{participantNamed, isParticipant}
 use Rattle.participant.specs.declared.Participant.{Participant}

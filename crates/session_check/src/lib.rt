@@ -17,7 +17,7 @@ ghost use Prim.Native.Nat.{_+_, _-_, _≤_, _<_};
 ghost use lib.ListN.{length};
 ghost use lib.Dec.{eqb};
 ghost use Rattle.book.specs.Bounds.{mostProcesses};
-ghost use Rattle.line_theory.specs.Over.{allTo};
+ghost use Rattle.lists.specs.Over.{allTo};
 ghost use Rattle.strands.specs.Strands.{strandStart};
 ghost use Rattle.session.specs.Workers.{isEnded};
 ghost use Rattle.session.specs.Held.{isReport, isStray};
@@ -94,7 +94,7 @@ fn all_purposes(participants: [Participant; 16]) -> bool
     let mut k = 0;
     while k < book::MOST_PROCESSES {
         let p = participants[k];
-        if !is_absent(p) && !message::is_purpose(p.purpose) {
+        if !is_absent(p) && !book::is_purpose(p.purpose) {
             return false;
         }
         k += 1;
@@ -110,10 +110,10 @@ pub fn named(session: Session, n: usize) -> bool
     let machine = session.machine;
     let me = machine.me;
     let participants = session.participants;
-    if !message::is_named(n, initiator.0) {
+    if !book::is_named(n, initiator.0) {
         return false;
     }
-    if !message::is_named(n, me.0) {
+    if !book::is_named(n, me.0) {
         return false;
     }
     all_named(n, participants)
@@ -125,10 +125,10 @@ pub fn purposes(session: Session) -> bool
 {
     let machine = session.machine;
     let participants = session.participants;
-    if !message::is_purpose(session.purpose) {
+    if !book::is_purpose(session.purpose) {
         return false;
     }
-    if !message::is_purpose(machine.purpose) {
+    if !book::is_purpose(machine.purpose) {
         return false;
     }
     all_purposes(participants)

@@ -9,7 +9,7 @@ use Rattle.book.specs.Questions as questions
 use Rattle.book.specs.Along as along
 use Rattle.book.specs.Check as check
 use Rattle.book.specs.Read as read
-use Rattle.line_theory.specs.Over as over
+use Rattle.lists.specs.Over as over
 use Rattle.line_theory.specs.Sets as sets
 use Rattle.line_theory.specs.Search as search
 use Rattle.consistency.specs.Set as set

@@ -7,7 +7,7 @@ use native.Mathlib.Omega.{arith}
 use borrow.Author.Tests.{eq-eqb, ne-eqb}
 use lib.ListN.{length}
 use Rattle.book.specs.declared.Process.{Process}
-use Rattle.matrix.specs.Matrix.{pick}
+use Rattle.lists.specs.Pick.{pick}
 use Rattle.message.specs.declared.Message.{Message}
 use Rattle.message.specs.Layout.{messageBytes}
 use Rattle.mail.specs.declared.Outgoing.{Outgoing}

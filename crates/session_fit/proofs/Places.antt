@@ -9,11 +9,11 @@ use borrow.Author.Tests.{lt-ltb, le-leb, eq-eqb, ne-eqb}
 use lib.ListN.{length}
 use lib.Dec.{eqb}
 use Rattle.book.specs.declared.Process.{Process}
-use Rattle.line_theory.proofs.Over.{all-out}
+use Rattle.lists.proofs.Over.{all-out}
 use Rattle.matrix.specs.Matrix.{asRow}
-use Rattle.message.specs.Formed.{isPurpose}
+use Rattle.book.specs.Names.{isPurpose}
 use Rattle.machine.specs.Named.{participantNamed, isParticipant, countLimit}
-use Rattle.machine_laws.proofs.Tests.{or-out}
+use Rattle.lists.proofs.Tests.{or-unless}
 use Rattle.machine_laws.proofs.Rows.{same-self}
 use Rattle.participant.specs.declared.Participant.{Participant}
 use Rattle.participant.specs.Calls.{noParticipant}
@@ -47,7 +47,7 @@ module _ (g : Search) (is : IsSearch g) (s : Session) (placed : Placed g s) wher
   place-passes f part k h = go (isPart g k) refl
     where
       go : (there : Bool) → isPart g k ≡ there → (isAbsent (participantAt s k) || f (participantAt s k)) ≡ true
-      go true there = or-out (isAbsent (participantAt s k)) (f (participantAt s k)) (λ _. part k there)
+      go true there = or-unless (isAbsent (participantAt s k)) (f (participantAt s k)) (λ _. part k there)
       go false none = rw (ap isAbsent (placed .absent k h none .0) ∙ nobody-there)
 
   named : sessionNamed n s ≡ true

@@ -9,15 +9,15 @@ use lib.ListN.{length, getD, set, length-set}
 use Rattle.book.specs.declared.Process.{Process}
 use Rattle.book.specs.declared.Shape.{Shape}
 use Rattle.book.specs.View.{count}
-use Rattle.line_theory.specs.Over.{tab}
-use Rattle.consistency.proofs.Fills.{fill-more}
-use Rattle.line_theory.proofs.Over.{tab-is}
+use Rattle.lists.specs.Over.{tab}
+use Rattle.lists.proofs.Fills.{fill-more}
+use Rattle.lists.proofs.Over.{tab-is}
 use Rattle.machine.specs.Named.{isParticipant}
 use Rattle.participant.specs.declared.Participant.{Participant}
 use Rattle.participant.specs.Step.{firstOf}
 use Rattle.participant.specs.Calls.{noParticipant}
 use Rattle.session.specs.Steps.{placeAtStart}
-pub use Rattle.session.proofs.Places.{at-place}
+pub use Rattle.lists.proofs.Over.{at-place}
 
 -- ---- one place
 

@@ -11,7 +11,7 @@ use Rattle.book.specs.declared.Shape.{Shape}
 use Rattle.book.specs.declared.TableRows.{TableRows}
 use Rattle.book.specs.InTurn.{ask}
 use Rattle.book.proofs.Questions.{then-none, asked-yes}
-use Rattle.line_theory.specs.Over.{tab}
+use Rattle.lists.specs.Over.{tab}
 use Rattle.matrix.specs.Matrix.{row}
 use Rattle.message.specs.declared.Message.{Message}
 use Rattle.message.specs.Formed.{messageFormed}

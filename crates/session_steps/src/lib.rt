@@ -13,7 +13,7 @@ use session::Turned;
 ghost use mathlib.Core.Path.{_≡_};
 ghost use mathlib.Core.List.{[]};
 ghost use Prim.Native.Nat.{suc, _-_, _≤_, _<_};
-ghost use Rattle.line_theory.specs.Over.{tab};
+ghost use Rattle.lists.specs.Over.{tab};
 ghost use Rattle.machine.specs.Named.{countLimit};
 ghost use Rattle.machine.specs.Given.{Given};
 ghost use Rattle.initiator.specs.Calls as calls;

@@ -5,8 +5,8 @@ use mathlib.Core.List.{List, []}
 use Prim.Native.Nat.{ℕ, _<_}
 use borrow.Author.Tests.{eq-eqb, ne-eqb}
 use lib.ListN.{length}
-use Rattle.line_theory.proofs.Over.{length-tab, getD-tab}
-use Rattle.matrix.specs.Matrix.{pick}
+use Rattle.lists.proofs.Over.{length-tab, getD-tab}
+use Rattle.lists.specs.Pick.{pick}
 use Rattle.message.specs.Layout.{messageBytes}
 use Rattle.mail.specs.declared.Outgoing.{Outgoing}
 use Rattle.mail.specs.Outgoing.{goesTo, messageTo, bytesTo}

@@ -4,9 +4,9 @@ use Prim.Native.Nat.{ℕ, _+_, _<_}
 use native.Mathlib.Decide.{ℕ-discrete}
 use borrow.Author.Tests.{eq-eqb, ne-eqb}
 use lib.Dec.{eqb}
-use Rattle.line_theory.specs.Over.{sumTo}
-use Rattle.line_theory.proofs.Over.{sum-less}
-use Rattle.matrix.specs.Matrix.{pick}
+use Rattle.lists.specs.Over.{sumTo}
+use Rattle.lists.proofs.Over.{sum-less}
+use Rattle.lists.specs.Pick.{pick}
 
 -- what holds at one place, and elsewhere, holds everywhere
 pub by-place : (P : ℕ → Type 0) (k : ℕ) → P k → ((q : ℕ) → (q ≡ k → ⊥) → P q) → (q : ℕ) → P q

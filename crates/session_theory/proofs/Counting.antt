@@ -4,9 +4,10 @@ use mathlib.Core.Bool.{Bool, true, false}
 use Prim.Native.Nat.{ℕ, _-_}
 use borrow.Author.Tests.{lt-ltb}
 use Rattle.book.specs.Bounds.{mostProcesses}
-use Rattle.line_theory.specs.Over.{sumTo}
-use Rattle.line_theory.proofs.Over.{sum-ext}
-use Rattle.matrix.specs.Matrix.{pick, isPair}
+use Rattle.lists.specs.Over.{sumTo}
+use Rattle.lists.proofs.Over.{sum-ext}
+use Rattle.lists.specs.Pick.{pick}
+use Rattle.matrix.specs.Matrix.{isPair}
 use Rattle.machine_laws.proofs.Pairs.{pair-sym}
 use Rattle.exchange_laws.proofs.Counts.{count-pairs}
 use Rattle.session_theory.proofs.Search.{Search, IsSearch, size, lead, isPart}

@@ -9,11 +9,11 @@ use borrow.Author.Tests.{lt-ltb, eq-eqb, ne-eqb, eqb-true, eqb-false, le-leb, le
 use lib.Dec.{ltb, leb, eqb}
 use Rattle.book.specs.declared.Process.{Process}
 use Rattle.book.specs.Bounds.{mark}
-use Rattle.book.proofs.Tests.{and-both, both-and}
+use Rattle.lists.proofs.Tests.{and-both, both-and}
 use Rattle.line_theory.specs.Sets.{IsBook, IsLine}
 use Rattle.line_theory.proofs.Accepted.{accepted-size, accepted-is-book}
 use Rattle.line_theory.proofs.Theorems.{line-is-line}
-use Rattle.message.specs.Formed.{isNamed}
+use Rattle.book.specs.Names.{isNamed}
 use Rattle.machine.specs.Named.{participantNamed}
 use Rattle.machine_laws.specs.Own.{IsOwn}
 use Rattle.machine_laws.proofs.Theorems.{accepted-is-own}

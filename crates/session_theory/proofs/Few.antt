@@ -7,7 +7,7 @@ use native.Mathlib.Omega.{arith}
 use lib.ListN.{take, getD}
 use Rattle.book.specs.View.{sum}
 use Rattle.book.proofs.Sums.{sum-more, sum-take}
-use Rattle.line_theory.specs.Over.{sumTo}
+use Rattle.lists.specs.Over.{sumTo}
 use Rattle.line_theory.proofs.Accepted.{accepted-few}
 use Rattle.line_theory.proofs.Theorems.{newer-is-distance}
 use Rattle.machine.specs.Named.{countLimit}

@@ -6,8 +6,9 @@ use Prim.Native.Nat.{ℕ, suc, _+_, _-_, _*_, _≤_, _<_}
 use lib.ListN.{length}
 use lib.Dec.{eqb}
 use Rattle.book.specs.Bounds.{mark, mostProcesses}
-use Rattle.line_theory.specs.Over.{sumTo}
-use Rattle.matrix.specs.Matrix.{pick, entry, row, column}
+use Rattle.lists.specs.Over.{sumTo}
+use Rattle.lists.specs.Pick.{pick}
+use Rattle.matrix.specs.Matrix.{entry, row, column}
 use Rattle.matrix.specs.Entries.{patch}
 use Rattle.message.specs.declared.Message.{Message}
 use Rattle.message.specs.Layout.{messageBytes}

@@ -8,11 +8,11 @@ use Rattle.book.specs.declared.Shape.{Shape}
 use Rattle.book.specs.declared.Process.{Process}
 use Rattle.book.specs.Bounds.{mostProcesses}
 use Rattle.book.specs.Check.{tablesQuestion}
-use Rattle.line_theory.specs.Over.{sumTo}
+use Rattle.lists.specs.Over.{sumTo}
 use Rattle.line_theory.specs.Sets.{View, newerThan}
 use Rattle.line_theory.specs.Search.{line}
 use Rattle.line_theory.specs.OfTables.{viewOf}
-use Rattle.message.specs.Formed.{isNamed, isPurpose}
+use Rattle.book.specs.Names.{isNamed, isPurpose}
 use Rattle.machine.specs.Own.{Own, ownOf}
 use Rattle.machine.specs.Named.{isParticipant}
 

@@ -14,7 +14,7 @@ use Rattle.book.specs.View.{counterAt, count, S, R}
 use Rattle.book.proofs.Counts.{few-in-all}
 use Rattle.round_trips.specs.WellFormed.{process, counter, WellFormed}
 use Rattle.round_trips.proofs.Tables.{Checked}
-use Rattle.line_theory.specs.Over.{sumTo}
+use Rattle.lists.specs.Over.{sumTo}
 use Rattle.line_theory.specs.Sets.{View, IsBook}
 use Rattle.line_theory.specs.OfTables.{viewOf}
 use Rattle.line_theory.proofs.Accepted.{by-column, checked, well, unused-entry, inside, received-own, sent-of, received-of, received-rises, accepted-is-book}

@@ -17,10 +17,10 @@ use Rattle.round_trips.proofs.Tables.{good-of, good-tables, of-shape, of-sent, 
 use Rattle.round_trips.proofs.View.{view-count}
 use Rattle.round_trips.proofs.Well.{well-good}
 use Rattle.round_trips.proofs.Zeros.{length-padded}
-use Rattle.line_theory.specs.Over.{sumTo, tab}
+use Rattle.lists.specs.Over.{sumTo, tab}
 use Rattle.line_theory.specs.Sets.{View}
 use Rattle.line_theory.specs.OfTables.{viewOf}
-use Rattle.line_theory.proofs.Over.{length-tab, getD-tab, sum-ext}
+use Rattle.lists.proofs.Over.{length-tab, getD-tab, sum-ext}
 use Rattle.shown.specs.Shown.{bookShown}
 use Rattle.shown.specs.Statements.{ShowsBook, AreAccepted, TablesShown, ShownIsAccepted, ShownIsView}
 use Rattle.shown.proofs.Columns.{by-half}

@@ -9,9 +9,9 @@ use Rattle.book.specs.Layout.{width, Book}
 use Rattle.book.specs.Tables.{partnerColumn}
 use Rattle.book.proofs.Rows.{column-within}
 use Rattle.round_trips.specs.WellFormed.{process, checkpoint, counter}
-use Rattle.line_theory.specs.Over.{tab}
+use Rattle.lists.specs.Over.{tab}
 use Rattle.line_theory.specs.Sets.{View}
-use Rattle.line_theory.proofs.Over.{length-tab, getD-tab, tab-same}
+use Rattle.lists.proofs.Over.{length-tab, getD-tab, tab-same}
 use Rattle.shown.specs.Shown.{countersShown, bookShown}
 use Rattle.shown.specs.Statements.{IsCounter, SameCounters, SameBook}
 use Rattle.line_theory.proofs.Accepted.{by-column}

@@ -15,9 +15,9 @@ use Rattle.book.specs.Tables.{padded, tableRow, processRows, rowsFrom, countsOf
 use Rattle.book.proofs.Rows.{length-others, getD-others, column-within}
 use Rattle.round_trips.proofs.Row.{row-others}
 use Rattle.round_trips.proofs.Zeros.{cons-zero}
-use Rattle.line_theory.specs.Over.{tabFrom, tab}
+use Rattle.lists.specs.Over.{tabFrom, tab}
 use Rattle.line_theory.specs.Sets.{View}
-use Rattle.line_theory.proofs.Over.{length-tab, getD-tab, tab-is, tab-last}
+use Rattle.lists.proofs.Over.{length-tab, getD-tab, tab-is, tab-last}
 use Rattle.shown.specs.Shown.{countersShown, bookShown}
 use Rattle.shown.specs.Rows.{rowsTo, allRowsTo}
 use Rattle.shown.specs.Statements.{ZeroElsewhere, ShapeShown, SentRowsShown, ReceivedRowsShown}

@@ -5,7 +5,7 @@ use Prim.Native.Nat.{ℕ, zero, suc}
 use lib.ListN.{take, getD}
 use Rattle.book.specs.View.{sum}
 use Rattle.book.proofs.Sums.{sum-more}
-use Rattle.line_theory.specs.Over.{sumTo}
+use Rattle.lists.specs.Over.{sumTo}
 
 pub sum-to : (k : ℕ) (l : List ℕ) → sumTo k (λ j. getD l j 0) ≡ sum (take k l)
 unfolding sumTo sum

@@ -3,7 +3,7 @@
 use mathlib.Core.List.{List, [], _++_}
 use Prim.Native.Nat.{ℕ, zero, suc}
 use Rattle.book.specs.Bounds.{rowWidth}
-use Rattle.line_theory.specs.Over.{tab}
+use Rattle.lists.specs.Over.{tab}
 
 -- the rows of the first k checkpoints of a process
 unfoldable pub rowsTo : (ℕ → ℕ → ℕ) → ℕ → List ℕ

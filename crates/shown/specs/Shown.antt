@@ -4,7 +4,7 @@ use mathlib.Core.List.{List, _++_}
 use Prim.Native.Nat.{ℕ, suc, _-_}
 use Rattle.book.specs.Layout.{Book}
 use Rattle.book.specs.Tables.{partnerColumn}
-use Rattle.line_theory.specs.Over.{tab}
+use Rattle.lists.specs.Over.{tab}
 use Rattle.line_theory.specs.Sets.{View}
 
 -- a checkpoint: "the messages sent to every other process in rising order, then those received from every other in rising order"

@@ -9,7 +9,7 @@ use Rattle.book.specs.Layout.{Book}
 use Rattle.book.specs.Tables.{shapeOf, sentTable, receivedTable, padded}
 use Rattle.book.specs.View.{count, S, R}
 use Rattle.book.specs.Check.{tablesQuestion}
-use Rattle.line_theory.specs.Over.{sumTo, tab}
+use Rattle.lists.specs.Over.{sumTo, tab}
 use Rattle.line_theory.specs.Sets.{View}
 use Rattle.line_theory.specs.OfTables.{viewOf}
 use Rattle.shown.specs.Shown.{bookShown}

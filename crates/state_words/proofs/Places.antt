@@ -8,7 +8,7 @@ use lib.ListN.{length, getD}
 use lib.Seq.{sets, length-sets}
 use Rattle.participant.specs.declared.Participant.{Participant}
 use Rattle.participant.specs.Calls.{noParticipant}
-use Rattle.session.proofs.Places.{at-place}
+use Rattle.lists.proofs.Over.{at-place}
 use Rattle.words.specs.Participant.{participantWords}
 use Rattle.words.specs.Session.{placeStart, placeWords}
 use Rattle.words.proofs.Storing.{sets-then}

@@ -7,7 +7,7 @@ use native.Mathlib.Omega.{arith}
 use lib.ListN.{length, take, drop}
 use lib.Seq.{sets}
 use Rattle.book.specs.Bounds.{mostProcesses}
-use Rattle.matrix.specs.Matrix.{pick}
+use Rattle.lists.specs.Pick.{pick}
 use Rattle.mail.specs.Outgoing.{goesTo, bytesTo}
 use Rattle.strands.specs.Strands.{slotSize, strandStart, lengthOn, strandBytes, haveRoom, posted}
 use Rattle.session.specs.declared.Session.{Session}

@@ -10,8 +10,8 @@ use lib.ListN.{length, take, drop}
 use lib.Dec.{leb}
 use lib.Seq.{sets, length-sets}
 use Rattle.book.specs.Bounds.{mostProcesses}
-use Rattle.line_theory.proofs.Over.{all-in, all-out}
-use Rattle.matrix.specs.Matrix.{pick}
+use Rattle.lists.proofs.Over.{all-in, all-out}
+use Rattle.lists.specs.Pick.{pick}
 use Rattle.message.specs.Layout.{messageBytes}
 use Rattle.mail.specs.declared.Outgoing.{Outgoing}
 use Rattle.mail.specs.Outgoing.{goesTo, messageTo, bytesTo}

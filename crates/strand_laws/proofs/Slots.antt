@@ -7,7 +7,7 @@ use native.Mathlib.Nat.{add-mul, mul-comm, mul-le-mul-left}
 use native.Mathlib.Omega.{arith}
 use borrow.Author.Tests.{lt-ltb, le-ltb}
 use lib.Dec.{ltb}
-use Rattle.matrix.specs.Matrix.{pick}
+use Rattle.lists.specs.Pick.{pick}
 use Rattle.strands.specs.Strands.{slotSize, strandStart, roomForAll}
 use Rattle.strand_laws.proofs.Runs.{Apart}
 

@@ -7,9 +7,9 @@ use native.Mathlib.Numerals.{add-one}
 use native.Mathlib.Omega.{arith}
 use lib.ListN.{length, getD, set, length-set}
 use lib.Seq.{sets, length-sets}
-use Rattle.line_theory.proofs.Over.{all-in, tab-is}
-use Rattle.consistency.proofs.Fills.{fill-more}
-use Rattle.matrix.specs.Matrix.{pick}
+use Rattle.lists.proofs.Over.{all-in, tab-is}
+use Rattle.lists.proofs.Fills.{fill-more}
+use Rattle.lists.specs.Pick.{pick}
 use Rattle.mail.specs.declared.Outgoing.{Outgoing}
 use Rattle.mail.specs.Outgoing.{goesTo, bytesTo}
 use Rattle.strands.specs.Strands.{strandStart, haveRoom, postedTo, posted, lengthsPosted}

@@ -8,8 +8,8 @@ use lib.ListN.{length, take, drop, getD}
 use lib.Dec.{ltb, leb}
 use lib.Seq.{sets}
 use Rattle.book.specs.Bounds.{groups, mostProcesses}
-use Rattle.line_theory.specs.Over.{allTo, tab}
-use Rattle.matrix.specs.Matrix.{pick}
+use Rattle.lists.specs.Over.{allTo, tab}
+use Rattle.lists.specs.Pick.{pick}
 use Rattle.mail.specs.declared.Outgoing.{Outgoing}
 use Rattle.mail.specs.Outgoing.{goesTo, bytesTo}
 

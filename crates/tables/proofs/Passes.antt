@@ -21,7 +21,7 @@ use Rattle.book.specs.Fits.{RowsFit, BookFits}
 use Rattle.book.proofs.Counters.{good}
 use Rattle.book.proofs.Fits.{rows-fit, first-more}
 use Rattle.book.proofs.Rows.{column-within}
-use Rattle.book.proofs.Tests.{both-and}
+use Rattle.lists.proofs.Tests.{both-and}
 use Rattle.book.specs.Before.{entryBefore}
 use Rattle.tables.specs.Sound.{RowsSound, TableSound, Passed}
 use Rattle.tables.proofs.Zeros.{each-zeros}

@@ -11,7 +11,7 @@ use Rattle.book.specs.Check.{countsQuestion}
 use Rattle.book.specs.Fits.{RowsFit, BookFits}
 use Rattle.book.proofs.Counts.{counts-some}
 use Rattle.tables.specs.Sound.{Between, Known, Rising, RowsSound, TableSound}
-use Rattle.book.proofs.Loops.{below-more}
+use Rattle.lists.proofs.Fills.{below-more}
 use Rattle.tables.proofs.BookTurns.{Placed, placed-none, placed-more}
 
 -- what the sweeps see of the rows of a process

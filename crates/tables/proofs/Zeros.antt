@@ -10,7 +10,7 @@ use lib.ListN.{length, take, getD, drop-of-length-le}
 use lib.Seq.{slice, slice-cons, length-slice, length-take-le, getD-take, getD-drop}
 use lib.Dec.{eqb}
 use Rattle.book.specs.Questions.{allZero}
-use Rattle.book.proofs.Tests.{and-both}
+use Rattle.lists.proofs.Tests.{and-both}
 use Rattle.tables.specs.Sound.{Between}
 
 pub zero-none : allZero [] ≡ true

@@ -9,11 +9,11 @@ use lib.ListN.{length, take, drop}
 use lib.Dec.{eqb, ltb, leb}
 use Rattle.book.specs.declared.Shape.{Shape}
 use Rattle.book.specs.declared.TableRows.{TableRows}
-use Rattle.book.proofs.Tests.{and-both}
-use Rattle.line_theory.specs.Over.{allTo}
-use Rattle.line_theory.proofs.Over.{all-in}
+use Rattle.lists.proofs.Tests.{and-both}
+use Rattle.lists.specs.Over.{allTo}
+use Rattle.lists.proofs.Over.{all-in}
 use Rattle.line_theory.proofs.Accepted.{accepted-size}
-use Rattle.matrix.specs.Matrix.{pick}
+use Rattle.lists.specs.Pick.{pick}
 use Rattle.machine.specs.Own.{ownOf}
 use Rattle.machine.specs.Named.{isParticipant, countLimit}
 use Rattle.machine.proofs.Calls.{given-of}

@@ -9,7 +9,7 @@ use Rattle.book.specs.InTurn.{_then_, ask, answerTo}
 use Rattle.book.specs.Check.{tablesQuestion}
 use mathlib.Core.Bool.{true}
 use Rattle.book.proofs.Questions.{then-none, asked-yes, kept-passed}
-use Rattle.message.specs.Formed.{isNamed, isPurpose}
+use Rattle.book.specs.Names.{isNamed, isPurpose}
 use Rattle.message.proofs.Heads.{named-in}
 use Rattle.strands.specs.Strands.{haveRoom, posted}
 use Rattle.session.specs.declared.Session.{Session}

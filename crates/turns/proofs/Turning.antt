@@ -14,11 +14,11 @@ use Rattle.book.specs.declared.TableRows.{TableRows}
 use Rattle.book.specs.InTurn.{_then_, ask, answerTo}
 use Rattle.book.specs.Check.{tablesQuestion}
 use Rattle.book.specs.View.{firstRows}
-use Rattle.book.proofs.Tests.{and-both, both-and}
+use Rattle.lists.proofs.Tests.{and-both, both-and}
 use Rattle.book.proofs.Questions.{then-none, then-passed, asked-yes, ask-yes, kept-passed}
-use Rattle.line_theory.specs.Over.{allTo, tabFrom}
+use Rattle.lists.specs.Over.{allTo, tabFrom}
 use Rattle.message.specs.declared.Head.{Head}
-use Rattle.message.specs.Formed.{isNamed}
+use Rattle.book.specs.Names.{isNamed}
 use Rattle.machine.specs.Named.{participantNamed, isParticipant}
 use Rattle.machine.specs.Sends.{otherHead, nothing}
 use Rattle.strands.specs.Strands.{haveRoom, posted, lengthOn, strandStart, strandBytes}

@@ -7,8 +7,8 @@ use native.Mathlib.Decide.{decLt}
 use native.Mathlib.Omega.{arith}
 use borrow.Author.Tests.{ltb-true, lt-ltb}
 use lib.Dec.{ltb}
-use Rattle.line_theory.specs.Over.{tab}
-use Rattle.line_theory.proofs.Over.{all-in, all-out}
+use Rattle.lists.specs.Over.{tab}
+use Rattle.lists.proofs.Over.{all-in, all-out}
 use Rattle.words.specs.Words.{word, allBelow}
 use Rattle.word_laws.proofs.Lying.{Lies, lies-tab-in}
 

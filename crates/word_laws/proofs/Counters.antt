@@ -4,7 +4,7 @@ use mathlib.Core.List.{List}
 use Prim.Native.Nat.{ℕ, _+_, _<_}
 use native.Mathlib.Omega.{arith}
 use Rattle.book.specs.declared.Count.{Count}
-use Rattle.line_theory.proofs.Over.{getD-tab, tab-is}
+use Rattle.lists.proofs.Over.{getD-tab, tab-is}
 use Rattle.consistency.specs.Known.{counters}
 use Rattle.words.specs.Words.{word, counterLimit, low, countsAt, countWords}
 use Rattle.word_laws.specs.Values.{AreCounts}

@@ -6,8 +6,8 @@ use native.Mathlib.Decide.{decLt}
 use native.Mathlib.Omega.{arith}
 use lib.ListN.{length, length-append, List·getD-append}
 use lib.Seq.{getD-append-add, ext-getD}
-use Rattle.line_theory.specs.Over.{tab}
-use Rattle.line_theory.proofs.Over.{length-tab, getD-tab}
+use Rattle.lists.specs.Over.{tab}
+use Rattle.lists.proofs.Over.{length-tab, getD-tab}
 use Rattle.words.specs.Words.{word}
 
 pub record Lies (words : List ℕ) (at : ℕ) (l : List ℕ) : Type 0 where

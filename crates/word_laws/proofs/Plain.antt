@@ -5,8 +5,8 @@ use Prim.Native.Nat.{ℕ, _+_}
 use native.Mathlib.Omega.{arith}
 use lib.ListN.{length}
 use Rattle.book.specs.declared.Shape.{Shape}
-use Rattle.line_theory.specs.Over.{tabFrom}
-use Rattle.line_theory.proofs.Over.{length-tab, getD-tab, tab-is}
+use Rattle.lists.specs.Over.{tabFrom}
+use Rattle.lists.proofs.Over.{length-tab, getD-tab, tab-is}
 use Rattle.consistency.specs.Set.{chosen}
 use Rattle.finder.proofs.Sixteen.{checkpoints-are, chosen-there}
 use Rattle.words.specs.Words.{word, sixteenAt}

@@ -10,9 +10,9 @@ use Rattle.book.specs.declared.Shape.{Shape}
 use Rattle.book.specs.declared.Process.{Process}
 use Rattle.book.specs.InTurn.{_then_, ask}
 use Rattle.book.specs.Check.{tablesQuestion}
-use Rattle.book.proofs.Tests.{and-both}
+use Rattle.lists.proofs.Tests.{and-both}
 use Rattle.book.proofs.Questions.{then-assoc}
-use Rattle.message.specs.Formed.{isNamed, isPurpose}
+use Rattle.book.specs.Names.{isNamed, isPurpose}
 use Rattle.message.proofs.Heads.{named-in}
 use Rattle.machine.specs.Named.{participantNamed}
 use Rattle.machine.specs.Own.{Own}

@@ -8,9 +8,9 @@ use native.Mathlib.Omega.{arith}
 use borrow.Author.Tests.{ltb-true, lt-ltb}
 use lib.Dec.{ltb}
 use lib.ListN.{length, getD, length-append}
-use Rattle.book.proofs.Tests.{and-both}
-use Rattle.line_theory.specs.Over.{tabFrom}
-use Rattle.line_theory.proofs.Over.{all-in, all-out, length-tab, getD-tab, tab-is}
+use Rattle.lists.proofs.Tests.{and-both}
+use Rattle.lists.specs.Over.{tabFrom}
+use Rattle.lists.proofs.Over.{all-in, all-out, length-tab, getD-tab, tab-is}
 use Rattle.participant.specs.declared.Participant.{Participant}
 use Rattle.participant.specs.Calls.{noParticipant}
 use Rattle.session.specs.declared.Session.{Session}

@@ -4,9 +4,9 @@ use mathlib.Core.List.{List}
 use Prim.Native.Nat.{ℕ, _+_, _≤_, _<_}
 use native.Mathlib.Omega.{arith}
 use lib.ListN.{length, getD, set, length-set}
-use Rattle.line_theory.specs.Over.{tab}
-use Rattle.line_theory.proofs.Over.{tab-is}
-use Rattle.consistency.proofs.Fills.{fill-more}
+use Rattle.lists.specs.Over.{tab}
+use Rattle.lists.proofs.Over.{tab-is}
+use Rattle.lists.proofs.Fills.{fill-more}
 
 -- the first k places are filled; `d` is what a place past the end would read
 pub record Filled {A : Type 0} (d : A) (size : ℕ) (f : ℕ → A) (l : List A) (k : ℕ) : Type 0 where

@@ -6,9 +6,9 @@ use native.Mathlib.Numerals.{add-one}
 use native.Mathlib.Omega.{arith}
 use lib.ListN.{length, set, drop, length-set, drop-of-length-le}
 use lib.Seq.{sets, sets-eq}
-use Rattle.book.proofs.Stores.{sets-append, sets-more}
-use Rattle.line_theory.specs.Over.{tabFrom, tab}
-use Rattle.line_theory.proofs.Over.{length-tab, tab-last}
+use Rattle.lists.proofs.Stores.{sets-append, sets-more}
+use Rattle.lists.specs.Over.{tabFrom, tab}
+use Rattle.lists.proofs.Over.{length-tab, tab-last}
 
 -- ---- the values of a function
 

@@ -3,8 +3,8 @@ use mathlib.Core.Bool.{Bool, true, false, not, _&&_}
 use mathlib.Core.List.{List, [], _∷_, _++_}
 use Prim.Native.Nat.{ℕ, _+_}
 use lib.Dec.{ltb, eqb}
-use Rattle.line_theory.specs.Over.{tab}
-use Rattle.matrix.specs.Matrix.{pick}
+use Rattle.lists.specs.Over.{tab}
+use Rattle.lists.specs.Pick.{pick}
 use Rattle.machine.specs.Flags.{flag}
 use Rattle.initiator.specs.declared.Initiator.{Initiator}
 use Rattle.words.specs.Words.{word, allBelow, counterLimit, low, countsAt, countWords}

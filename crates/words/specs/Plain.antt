@@ -6,7 +6,7 @@ use Rattle.book.specs.declared.Answer.{Answer}
 use Rattle.book.specs.declared.Answer.the-variants.{Accepted, Refused}
 use Rattle.book.specs.declared.Shape.{Shape}
 use Rattle.book.specs.declared.Checkpoint.{Checkpoint}
-use Rattle.line_theory.specs.Over.{tab}
+use Rattle.lists.specs.Over.{tab}
 use Rattle.consistency.specs.Set.{chosen}
 use Rattle.finder.specs.Line.{checkpoints}
 use Rattle.restart.specs.declared.Order.{Order}

@@ -5,8 +5,8 @@ use mathlib.Core.List.{List, [], _∷_, _++_}
 use Prim.Native.Nat.{ℕ, zero, suc, _+_, _*_}
 use lib.ListN.{getD}
 use lib.Dec.{ltb}
-use Rattle.line_theory.specs.Over.{allTo, tab}
-use Rattle.matrix.specs.Matrix.{pick}
+use Rattle.lists.specs.Over.{allTo, tab}
+use Rattle.lists.specs.Pick.{pick}
 use Rattle.participant.specs.declared.Participant.{Participant}
 use Rattle.participant.specs.Calls.{noParticipant}
 use Rattle.session.specs.declared.Session.{Session}

@@ -6,7 +6,7 @@ use Prim.Native.Nat.{ℕ, _+_, _%_}
 use lib.ListN.{length, getD}
 use lib.Dec.{ltb, eqb}
 use Rattle.book.specs.declared.Count.{Count}
-use Rattle.line_theory.specs.Over.{allTo, tab}
+use Rattle.lists.specs.Over.{allTo, tab}
 use Rattle.consistency.specs.Known.{counters}
 
 -- the lengths of the slices

@@ -9,7 +9,7 @@ use lib.ListN.{getD}
 use lib.Dec.{ltb}
 use Rattle.book.specs.View.{count}
 use Rattle.consistency.specs.Set.{chosen, isThere}
-use Rattle.book.proofs.Loops.{below-more}
+use Rattle.lists.proofs.Fills.{below-more}
 use Rattle.consistency.proofs.There.{there-all, there-not}
 use Rattle.consistency.proofs.all_there.Statement.{statement}
 use Rattle.consistency.proofs.all_there.Tie as tie

@@ -9,7 +9,7 @@ use Rattle.book.specs.View.{counterFrom}
 use Rattle.book.proofs.Starts.{placed-row, placed-counter}
 use Rattle.consistency.specs.Set.{chosen}
 use Rattle.consistency.specs.Known.{counters}
-use Rattle.consistency.proofs.Fills.{fill-more}
+use Rattle.lists.proofs.Fills.{fill-more}
 use Rattle.consistency.proofs.sent_to.Statement.{statement}
 use Rattle.consistency.proofs.sent_to.Tie as tie
 

@@ -7,7 +7,7 @@ use borrow.Author.Needs.{needs}
 use Rattle.line_theory.specs.Search.{permitted, sentTo}
 use Rattle.line_theory.specs.OfTables.{viewOf}
 use Rattle.consistency.specs.Set.{chosen}
-use Rattle.book.proofs.Loops.{below-more}
+use Rattle.lists.proofs.Fills.{below-more}
 use Rattle.consistency.proofs.Pairs.{pair-shown, pair-none, pairs-none}
 use Rattle.consistency.proofs.test_pairs.Statement.{statement}
 use Rattle.consistency.proofs.test_pairs.Tie as tie

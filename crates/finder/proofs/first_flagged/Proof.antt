@@ -5,7 +5,7 @@ use Prim.Native.Nat.{ℕ, _-_, _≤_, _<_}
 use native.Mathlib.Omega.{arith}
 use borrow.Author.Needs.{needs}
 use Rattle.finder.specs.Steps.{flagged}
-use Rattle.book.proofs.Loops.{below-more}
+use Rattle.lists.proofs.Fills.{below-more}
 use Rattle.finder.proofs.first_flagged.Statement.{statement}
 use Rattle.finder.proofs.first_flagged.Tie as tie
 

@@ -5,7 +5,7 @@ use Prim.Native.Nat.{ℕ, _-_, _≤_, _<_}
 use native.Mathlib.Omega.{arith}
 use borrow.Author.Needs.{needs}
 use lib.ListN.{length, length-set}
-use Rattle.consistency.proofs.Fills.{fill-more}
+use Rattle.lists.proofs.Fills.{fill-more}
 use Rattle.finder.specs.Steps.{rowOf, byRow, flagged, mustStepBack}
 use Rattle.finder.proofs.flags_of.Statement.{statement}
 use Rattle.finder.proofs.flags_of.Tie as tie

@@ -4,7 +4,7 @@ use native.Mathlib.Omega.{arith}
 use borrow.Author.Needs.{needs}
 use lib.ListN.{getD}
 use Rattle.finder.specs.Steps.{rowOf, byRow}
-use Rattle.book.proofs.Loops.{below-more}
+use Rattle.lists.proofs.Fills.{below-more}
 use Rattle.finder.proofs.Flags.{must-here, need-not}
 use Rattle.finder.proofs.must_step_back.Statement.{statement}
 use Rattle.finder.proofs.must_step_back.Tie as tie

@@ -6,7 +6,7 @@ use borrow.Author.Needs.{needs}
 use lib.ListN.{length, getD, length-set}
 use Rattle.book.specs.declared.Checkpoint.{Checkpoint}
 use Rattle.consistency.specs.Set.{chosen}
-use Rattle.consistency.proofs.Fills.{fill-more}
+use Rattle.lists.proofs.Fills.{fill-more}
 use Rattle.finder.proofs.Sixteen.{checkpoints-are}
 use Rattle.finder.proofs.newest_set.Statement.{statement}
 use Rattle.finder.proofs.newest_set.Tie as tie

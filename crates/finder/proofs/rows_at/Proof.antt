@@ -5,7 +5,7 @@ use native.Mathlib.Omega.{arith}
 use borrow.Author.Needs.{needs}
 use lib.ListN.{length, getD, length-set}
 use Rattle.consistency.specs.Set.{chosen}
-use Rattle.consistency.proofs.Fills.{fill-more}
+use Rattle.lists.proofs.Fills.{fill-more}
 use Rattle.finder.specs.Steps.{rowOf}
 use Rattle.finder.proofs.Rows.{row-small, first-at}
 use Rattle.finder.proofs.rows_at.Statement.{statement}

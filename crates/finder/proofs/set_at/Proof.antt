@@ -6,7 +6,7 @@ use borrow.Author.Needs.{needs}
 use lib.ListN.{length, getD, length-set}
 use Rattle.book.specs.declared.Checkpoint.{Checkpoint}
 use Rattle.consistency.specs.Set.{chosen}
-use Rattle.consistency.proofs.Fills.{fill-more, fill-rest}
+use Rattle.lists.proofs.Fills.{fill-more, fill-rest}
 use Rattle.finder.specs.Line.{noLine}
 use Rattle.finder.specs.Steps.{rowOf}
 use Rattle.finder.proofs.Rows.{row-small, first-at}

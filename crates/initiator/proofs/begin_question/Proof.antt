@@ -3,7 +3,7 @@ use mathlib.Core.Path.{sym, _∙_}
 use native.Mathlib.Omega.{arith}
 use borrow.Author.Needs.{needs}
 use borrow.Author.Tests.{not-true, not-false}
-use Rattle.message.specs.Formed.{isNamed, isPurpose}
+use Rattle.book.specs.Names.{isNamed, isPurpose}
 use Rattle.initiator.proofs.Calls.{first-fails, second-fails, none-fails}
 use Rattle.initiator.proofs.begin_question.Statement.{statement}
 use Rattle.initiator.proofs.begin_question.Tie as tie

@@ -1,6 +1,6 @@
 -- `idle` meets its contract.
 use mathlib.Core.Path.{refl}
-use Rattle.line_theory.specs.Over.{tabFrom}
+use Rattle.lists.specs.Over.{tabFrom}
 use Rattle.initiator.specs.Begin.{withoutWait}
 use Rattle.initiator.proofs.without_wait.Statement.{statement}
 use Rattle.initiator.proofs.without_wait.Tie as tie

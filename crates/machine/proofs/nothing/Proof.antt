@@ -1,6 +1,6 @@
 -- `nothing` meets its contract.
 use mathlib.Core.Path.{refl}
-use Rattle.line_theory.specs.Over.{tabFrom}
+use Rattle.lists.specs.Over.{tabFrom}
 use Rattle.matrix.specs.Matrix.{asMatrix}
 use Rattle.machine.specs.Sends.{nothing}
 use Rattle.machine.proofs.nothing.Statement.{statement}

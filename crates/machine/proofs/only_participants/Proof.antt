@@ -6,9 +6,9 @@ use Prim.Native.Nat.{ℕ, _-_}
 use native.Mathlib.Omega.{arith}
 use borrow.Author.Needs.{needs}
 use borrow.Author.Tests.{not-true, not-false}
-use Rattle.line_theory.proofs.Over.{all-not}
+use Rattle.lists.proofs.Over.{all-not}
 use Rattle.matrix.proofs.Before.{Before, before-none, before-more, before-all}
-use Rattle.message.proofs.Tests.{or-first, or-second}
+use Rattle.lists.proofs.Tests.{or-first, or-second}
 use Rattle.machine.specs.Named.{isParticipant}
 use Rattle.machine.specs.Flags.{flag, onlyParticipants}
 use Rattle.machine.proofs.only_participants.Statement.{statement}

@@ -4,8 +4,8 @@ use mathlib.Core.Bool.{not, _&&_}
 use borrow.Author.Needs.{needs}
 use borrow.Author.Tests.{not-true, not-false}
 use lib.Dec.{eqb}
-use Rattle.message.specs.Formed.{isNamed}
-use Rattle.message.proofs.Tests.{and-first, and-rest}
+use Rattle.book.specs.Names.{isNamed}
+use Rattle.lists.proofs.Tests.{and-first, and-rest}
 use Rattle.machine.proofs.participant_named.Statement.{statement}
 use Rattle.machine.proofs.participant_named.Tie as tie
 

@@ -4,7 +4,7 @@ use mathlib.Core.Bool.{Bool, not}
 use Prim.Native.Nat.{ℕ, _-_}
 use native.Mathlib.Omega.{arith}
 use borrow.Author.Needs.{needs}
-use Rattle.line_theory.proofs.Over.{all-not}
+use Rattle.lists.proofs.Over.{all-not}
 use Rattle.matrix.proofs.Before.{Before, before-none, before-more, before-all}
 use Rattle.machine.specs.Flags.{flag, someone}
 use Rattle.machine.proofs.someone.Statement.{statement}

@@ -6,7 +6,7 @@ use native.Mathlib.Omega.{arith}
 use borrow.Author.Needs.{needs}
 use borrow.Author.Tests.{eq-eqb, ne-eqb}
 use lib.Dec.{eqb}
-use Rattle.line_theory.proofs.Over.{all-not}
+use Rattle.lists.proofs.Over.{all-not}
 use Rattle.consistency.specs.Known.{counters}
 use Rattle.matrix.specs.Entries.{same}
 use Rattle.matrix.proofs.Before.{Before, before-none, before-more, before-all}

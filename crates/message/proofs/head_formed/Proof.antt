@@ -4,7 +4,8 @@ use mathlib.Core.Logic.{⊎-elim}
 use mathlib.Core.Bool.{true}
 use borrow.Author.Needs.{needs}
 use borrow.Author.Tests.{eq-eqb, ne-eqb, eqb-true, eqb-false, not-true, not-false}
-use Rattle.message.specs.Formed.{isKind, isPurpose, isNamed}
+use Rattle.book.specs.Names.{isPurpose, isNamed}
+use Rattle.message.specs.Formed.{isKind}
 use Rattle.message.proofs.Heads.{head-no-kind, head-no-purpose, head-no-sender, is-kind-1, is-kind-2, head-last}
 use Rattle.message.proofs.head_formed.Statement.{statement}
 use Rattle.message.proofs.head_formed.Tie as tie

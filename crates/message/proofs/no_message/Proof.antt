@@ -1,6 +1,6 @@
 -- `no_message` meets its contract.
 use mathlib.Core.Path.{refl}
-use Rattle.line_theory.specs.Over.{tabFrom}
+use Rattle.lists.specs.Over.{tabFrom}
 use Rattle.matrix.specs.Matrix.{asRow}
 use Rattle.message.specs.Read.{noMessage}
 use Rattle.message.proofs.no_message.Statement.{statement}

@@ -4,7 +4,7 @@ use Prim.Native.Nat.{_-_}
 use native.Mathlib.Omega.{arith}
 use borrow.Author.Needs.{needs}
 use borrow.Author.Tests.{not-true, not-false}
-use Rattle.line_theory.specs.Over.{tabFrom}
+use Rattle.lists.specs.Over.{tabFrom}
 use Rattle.matrix.specs.Matrix.{asRow}
 use Rattle.message.proofs.PairTurns.{Sofar, pair-in, sofar-begun, sofar-short, sofar-half, sofar-refused, sofar-more, sofar-ended}
 use Rattle.message.proofs.read_counted.Statement.{statement}

@@ -1,6 +1,6 @@
 -- `no_participant` meets its contract.
 use mathlib.Core.Path.{refl}
-use Rattle.line_theory.specs.Over.{tabFrom}
+use Rattle.lists.specs.Over.{tabFrom}
 use Rattle.matrix.specs.Matrix.{asRow}
 use Rattle.participant.specs.Calls.{noParticipant}
 use Rattle.participant.proofs.no_participant.Statement.{statement}

@@ -4,7 +4,7 @@ use Prim.Native.Nat.{_-_}
 use native.Mathlib.Omega.{arith}
 use borrow.Author.Needs.{needs}
 use lib.ListN.{getD}
-use Rattle.matrix.specs.Matrix.{pick}
+use Rattle.lists.specs.Pick.{pick}
 use Rattle.consistency.specs.Set.{chosen}
 use Rattle.restart.specs.Plan.{restarts}
 use Rattle.plans.proofs.Filled.{FilledTo, filled-none, filled-more, filled-numbers}

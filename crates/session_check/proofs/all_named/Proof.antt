@@ -6,7 +6,7 @@ use Prim.Native.Nat.{ℕ, _-_, _<_}
 use native.Mathlib.Omega.{arith}
 use borrow.Author.Needs.{needs}
 use lib.ListN.{length, getD}
-use Rattle.line_theory.proofs.Over.{all-not}
+use Rattle.lists.proofs.Over.{all-not}
 use Rattle.matrix.proofs.Before.{Before, before-none, before-more, before-all}
 use Rattle.machine.specs.Named.{participantNamed}
 use Rattle.participant.specs.declared.Participant.{Participant}

@@ -7,7 +7,7 @@ use native.Mathlib.Omega.{arith}
 use borrow.Author.Needs.{needs}
 use lib.ListN.{length, length-map}
 use Rattle.line_theory.proofs.Accepted.{accepted-size}
-use Rattle.line_theory.proofs.Over.{all-not}
+use Rattle.lists.proofs.Over.{all-not}
 use Rattle.matrix.proofs.Before.{Before, before-none, before-more, before-all}
 use Rattle.machine.specs.Flags.{flag}
 use Rattle.participant.specs.declared.Participant.{Participant}

@@ -4,7 +4,7 @@ use Prim.Native.Nat.{_-_}
 use native.Mathlib.Omega.{arith}
 use borrow.Author.Needs.{needs}
 use lib.Seq.{sets}
-use Rattle.line_theory.proofs.Over.{tab-is}
+use Rattle.lists.proofs.Over.{tab-is}
 use Rattle.words.specs.Words.{word}
 use Rattle.words.proofs.Storing.{Stored, stored-none, stored-more, stored-all}
 use Rattle.state_words.proofs.put_head.Statement.{statement}

@@ -6,7 +6,7 @@ use native.Mathlib.Omega.{arith}
 use borrow.Author.Needs.{needs}
 use borrow.Author.Tests.{not-true, not-false}
 use lib.ListN.{length}
-use Rattle.line_theory.proofs.Over.{all-not}
+use Rattle.lists.proofs.Over.{all-not}
 use Rattle.matrix.proofs.Before.{Before, before-none, before-more, before-all}
 use Rattle.strands.specs.Strands.{haveRoom}
 use Rattle.strands.proofs.Slots.{roomFor}

@@ -5,8 +5,7 @@ use mathlib.Core.Bool.{true, _&&_}
 use Prim.Native.Nat.{_≤_}
 use native.Mathlib.Omega.{arith}
 use borrow.Author.Tests.{not-true, not-false}
-use Rattle.book.proofs.Tests.{both-and}
-use Rattle.message.proofs.Tests.{and-first, and-second}
+use Rattle.lists.proofs.Tests.{both-and, and-first, and-second}
 use Rattle.machine.specs.Named.{participantNamed}
 use Rattle.machine.proofs.Answers.{first-no, second-no, third-no, all-yes}
 use Rattle.session.specs.Fits.{sessionNamed, sessionPurposes, sessionFits}

@@ -7,8 +7,8 @@ use native.Mathlib.Omega.{arith}
 use borrow.Author.Tests.{lt-ltb, le-ltb}
 use borrow.Author.Needs.{needs}
 use lib.Dec.{ltb}
-use Rattle.line_theory.proofs.Over.{all-out, all-not}
-use Rattle.book.proofs.Loops.{below-more}
+use Rattle.lists.proofs.Over.{all-out, all-not}
+use Rattle.lists.proofs.Fills.{below-more}
 use Rattle.words.specs.Words.{word, allBelow}
 use Rattle.words.proofs.all_below.Statement.{statement}
 use Rattle.words.proofs.all_below.Tie as tie

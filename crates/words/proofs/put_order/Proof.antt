@@ -3,7 +3,7 @@ use mathlib.Core.List.{_++_}
 use native.Mathlib.Omega.{arith}
 use borrow.Author.Needs.{needs}
 use lib.ListN.{length-append}
-use Rattle.line_theory.proofs.Over.{length-tab}
+use Rattle.lists.proofs.Over.{length-tab}
 use Rattle.words.specs.Plain.{setWords, numberWords, orderWords}
 use Rattle.words.proofs.Storing.{sets-then, sets-all}
 use Rattle.words.proofs.put_order.Statement.{statement}

@@ -6,7 +6,7 @@ use native.Mathlib.Omega.{arith}
 use borrow.Author.Needs.{needs}
 use lib.ListN.{length-set}
 use lib.Seq.{sets}
-use Rattle.line_theory.proofs.Over.{length-tab}
+use Rattle.lists.proofs.Over.{length-tab}
 use Rattle.words.specs.Plain.{numberWords, shapeWords}
 use Rattle.words.proofs.Storing.{sets-all}
 use Rattle.words.proofs.put_shape.Statement.{statement}

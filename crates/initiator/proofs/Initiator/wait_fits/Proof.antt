@@ -4,7 +4,7 @@ use mathlib.Core.Logic.{⊎-elim}
 use mathlib.Core.Bool.{true, _||_}
 use borrow.Author.Needs.{needs}
 use borrow.Author.Tests.{not-true, not-false}
-use Rattle.message.proofs.Tests.{or-first, or-second}
+use Rattle.lists.proofs.Tests.{or-first, or-second}
 use Rattle.machine.specs.Flags.{someone}
 use Rattle.initiator.specs.Fits.{waitFits}
 use Rattle.initiator.proofs.Initiator.wait_fits.Statement.{statement}

@@ -7,7 +7,7 @@ use native.Mathlib.Omega.{arith}
 use borrow.Author.Needs.{needs}
 use borrow.Author.Tests.{not-true, not-false}
 use Rattle.book.specs.declared.Count.{Count}
-use Rattle.line_theory.proofs.Over.{all-not}
+use Rattle.lists.proofs.Over.{all-not}
 use Rattle.consistency.proofs.Permits.{from-one}
 use Rattle.matrix.specs.Matrix.{row}
 use Rattle.matrix.specs.Entries.{restZero}

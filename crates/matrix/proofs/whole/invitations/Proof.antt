@@ -11,7 +11,7 @@ use lib.Dec.{eqb}
 use Rattle.book.specs.declared.Count.{Count}
 use Rattle.book.specs.Bounds.{mark}
 use Rattle.consistency.specs.Known.{counters}
-use Rattle.matrix.specs.Matrix.{pick}
+use Rattle.lists.specs.Pick.{pick}
 use Rattle.matrix.proofs.Rows.{filled-matrix}
 use Rattle.matrix.proofs.whole.invitations.Statement.{statement}
 use Rattle.matrix.proofs.whole.invitations.Tie as tie

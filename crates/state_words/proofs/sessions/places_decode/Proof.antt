@@ -5,8 +5,8 @@ use Prim.Native.Nat.{ℕ, _-_, _≤_, _<_}
 use native.Mathlib.Omega.{arith}
 use borrow.Author.Tests.{not-true, not-false}
 use borrow.Author.Needs.{needs}
-use Rattle.line_theory.proofs.Over.{all-out, all-not}
-use Rattle.book.proofs.Loops.{below-more}
+use Rattle.lists.proofs.Over.{all-out, all-not}
+use Rattle.lists.proofs.Fills.{below-more}
 use Rattle.words.specs.Session.{placeStart, placesDecode}
 use Rattle.words.specs.Participant.{participantDecodes}
 use Rattle.state_words.proofs.sessions.places_decode.Statement.{statement}

@@ -5,7 +5,7 @@ use Prim.Native.Nat.{ℕ}
 use native.Mathlib.Omega.{arith}
 use borrow.Author.Needs.{needs}
 use lib.ListN.{length, set, length-set, length-append}
-use Rattle.line_theory.proofs.Over.{length-tab}
+use Rattle.lists.proofs.Over.{length-tab}
 use Rattle.words.specs.Session.{placeWords, sessionWords}
 use Rattle.words.specs.Plain.{numberWords}
 use Rattle.words.specs.Initiator.{initiatorWords}

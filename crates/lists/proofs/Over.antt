@@ -8,8 +8,8 @@ use native.Mathlib.Decide.{decLt}
 use native.Mathlib.Omega.{arith}
 use lib.ListN.{length, getD}
 use lib.Seq.{ext-getD}
-use Rattle.book.proofs.Tests.{and-both, both-and}
-use Rattle.line_theory.specs.Over.{allTo, sumTo, tabFrom, tab, lastTo}
+use Rattle.lists.proofs.Tests.{and-both, both-and}
+use Rattle.lists.specs.Over.{allTo, sumTo, tabFrom, tab, lastTo}
 
 -- ---- true of all
 
@@ -122,7 +122,11 @@ getD-from i (suc k) f (suc j) d m = let e : i + suc j ≡ suc i + j = omega arit
 pub getD-tab : {A : Type 0} (k : ℕ) (f : ℕ → A) (i : ℕ) (d : A) → i < k → getD (tab k f) i d ≡ f i
 getD-tab k f i d m = let e : 0 + i ≡ i = omega arith in rw e at (getD-from 0 k f i d m)
 
--- ---- the last at which it is true
+-- a place that there is holds the same whatever would stand beyond the end
+pub at-place : {A : Type 0} (d e : A) (l : List A) (k : ℕ) → k < length l → getD l k d ≡ getD l k e
+at-place d e [] k h = absurd (omega arith)
+at-place d e (x ∷ l) zero h = refl
+at-place d e (x ∷ l) (suc k) h = at-place d e l k (omega arith)
 
 -- a list as long, with the values of a function
 pub tab-is : {A : Type 0} (d : A) (k : ℕ) (f : ℕ → A) (l : List A) → length l ≡ k → ((i : ℕ) → i < k → getD l i d ≡ f i) → l ≡ tab k f
@@ -148,6 +152,8 @@ tab-same-from i (suc k) f g h = rw (h i (omega arith), tab-same-from (suc i) k f
 -- as long, and the same values
 pub tab-same : {A : Type 0} (k m : ℕ) (f g : ℕ → A) → k ≡ m → ((i : ℕ) → i < k → f i ≡ g i) → tab k f ≡ tab m g
 tab-same k m f g e h = tab-same-from 0 k f g (λ i l. h i (omega arith)) ∙ ap (λ (k : ℕ). tab k g) e
+
+-- ---- the last at which it is true
 
 pub last-yes : (f : ℕ → Bool) (k : ℕ) → f (suc k) ≡ true → lastTo f (suc k) ≡ suc k
 unfolding lastTo

@@ -1,7 +1,7 @@
 -- `is_named` meets its contract.
 use borrow.Author.Tests.{le-leb, lt-leb}
-use Rattle.message.proofs.is_named.Statement.{statement}
-use Rattle.message.proofs.is_named.Tie as tie
+use Rattle.book.proofs.is_named.Statement.{statement}
+use Rattle.book.proofs.is_named.Tie as tie
 
 returns : tie.Need-returns
 returns c = rw (le-leb 1 (c .before .args .process) (c .if1 .taken))

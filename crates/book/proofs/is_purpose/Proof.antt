@@ -1,7 +1,7 @@
 -- `is_purpose` meets its contract.
 use borrow.Author.Tests.{le-leb, lt-leb}
-use Rattle.message.proofs.is_purpose.Statement.{statement}
-use Rattle.message.proofs.is_purpose.Tie as tie
+use Rattle.book.proofs.is_purpose.Statement.{statement}
+use Rattle.book.proofs.is_purpose.Tie as tie
 
 returns : tie.Need-returns
 returns c = rw (le-leb 1 (c .before .args .purpose) (c .if1 .taken))

@@ -1,0 +1,4 @@
+pub mod Tests
+pub mod Over
+pub mod Fills
+pub mod Stores
