@@ -41,15 +41,13 @@ static const uint8_t own_book[] = {
 
 /* The book in memory. */
 static uint64_t shape[RECOVERY_LINE_SHAPE_WORDS];
-static uint32_t sent[ENTRIES], received[ENTRIES];
+static recovery_line_counter sent[ENTRIES], received[ENTRIES];
 
 /* The workers' machines; process p's is participants[p - 1]. */
 static uint64_t initiator[RECOVERY_LINE_INITIATOR_WORDS];
 static uint64_t participants[PROCESSES][RECOVERY_LINE_PARTICIPANT_WORDS];
 
-/* Where a state has what the example looks at, as the header lays it out. */
-enum { PARTICIPANT_STAGE = 4, PARTICIPANT_CANDIDATE = 5, STAGE_ENDED = 2 };
-enum { INITIATOR_ENDED = 3, INITIATOR_CANDIDATE = 4, INITIATOR_ROUNDS = 5 };
+enum { STAGE_ENDED = 2 };
 
 /* The messages on their way: at most one between the initiator and each other worker. */
 static struct letter letters[PROCESSES];
@@ -154,10 +152,12 @@ static unsigned search(void) {
 /* Whether process p has ended, and stands on that checkpoint. */
 static int has_ended_on(uint64_t p, uint64_t checkpoint) {
     if (p == INITIATOR) {
-        return initiator[INITIATOR_ENDED] == 1 && initiator[INITIATOR_CANDIDATE] == checkpoint;
+        return initiator[RECOVERY_LINE_INITIATOR_ENDED_AT] == 1 &&
+               initiator[RECOVERY_LINE_INITIATOR_CANDIDATE_AT] == checkpoint;
     }
     const uint64_t *participant = participants[p - 1];
-    return participant[PARTICIPANT_STAGE] == STAGE_ENDED && participant[PARTICIPANT_CANDIDATE] == checkpoint;
+    return participant[RECOVERY_LINE_PARTICIPANT_STAGE_AT] == STAGE_ENDED &&
+           participant[RECOVERY_LINE_PARTICIPANT_CANDIDATE_AT] == checkpoint;
 }
 
 /* Finds the line in the tables, holds every worker against it, and prints it. */
@@ -180,7 +180,8 @@ static void move_line(void) {
     uint64_t order[RECOVERY_LINE_ORDER_WORDS] = {0}, length = 0;
     accepted(recovery_line_move(TABLES, PURPOSE, ARRAY(order)));
     for (uint64_t p = 1; p <= shape[0]; p++) {
-        const uint64_t *from = &order[p - 1], *before = from + PROCESSES, *after = before + PROCESSES;
+        const uint64_t *from = &order[p - 1], *before = from + RECOVERY_LINE_ORDER_BEFORE_AT;
+        const uint64_t *after = from + RECOVERY_LINE_ORDER_AFTER_AT;
         printf("process %" PRIu64 " restarts from checkpoint %" PRIu64, p, *from);
         printf("; before it %" PRIu64 " go, after it %" PRIu64 "\n", *before, *after);
     }
@@ -194,7 +195,7 @@ int main(int argc, char **argv) {
     printf("processes %" PRIu64 "\n", shape[0]);
     unsigned delivered = search();
     compare_with_line();
-    printf("rounds %" PRIu64 "\nmessages %u\n", initiator[INITIATOR_ROUNDS], delivered);
+    printf("rounds %" PRIu64 "\nmessages %u\n", initiator[RECOVERY_LINE_INITIATOR_ROUNDS_AT], delivered);
     move_line();
     return EXIT_SUCCESS;
 }

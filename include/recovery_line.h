@@ -23,9 +23,9 @@
  *   - Stack: no call was measured to need more than RECOVERY_LINE_STACK_BYTES; on a signal handler's stack that comes on top of
  *     what the handler and the system take. What each was measured to need, rounded up, stands with it.
  *
- * Words. Shapes, sets, states, sessions, lengths and orders cross as 64-bit words in slices of a fixed, named length. A slice
- * of words of any other length is refused by RECOVERY_LINE_WRONG_LENGTH, before every question. Tables have another rule:
- * question 2 asks their lengths.
+ * Words. Shapes, sets, states, sessions, lengths and orders cross as 64-bit words in slices of a fixed, named length, with a
+ * name too for the place of each part, as RECOVERY_LINE_INITIATOR_ROUNDS_AT. A slice of words of any other length is refused
+ * by RECOVERY_LINE_WRONG_LENGTH, before every question. Tables have another rule: question 2 asks their lengths.
  *   shape        n, then sixteen counts of checkpoints; 0 for absent processes.
  *   set, line    sixteen checkpoint numbers; 0 for absent processes.
  *   pair         two process numbers.
@@ -68,25 +68,66 @@ extern "C" {
 #define RECOVERY_LINE_PROCESSES 16
 #define RECOVERY_LINE_CHECKPOINTS 256
 #define RECOVERY_LINE_BOOK_BYTES 65536
-#define RECOVERY_LINE_TABLE_ENTRIES 4096
+#define RECOVERY_LINE_GROUPS 5
+#define RECOVERY_LINE_TABLE_ENTRIES (RECOVERY_LINE_CHECKPOINTS * RECOVERY_LINE_PROCESSES)
+#define RECOVERY_LINE_MATRIX_ENTRIES (RECOVERY_LINE_PROCESSES * RECOVERY_LINE_PROCESSES)
 
-/* Slices of words. */
-#define RECOVERY_LINE_SHAPE_WORDS 17
-#define RECOVERY_LINE_SET_WORDS 16
+/* Slices of words: how many each has, and where its parts begin. What stands in them is said above; the first part, as n,
+ * begins at 0, and every other where the one before it ends. */
+#define RECOVERY_LINE_SHAPE_COUNTS_AT 1
+#define RECOVERY_LINE_SHAPE_WORDS (RECOVERY_LINE_SHAPE_COUNTS_AT + RECOVERY_LINE_PROCESSES)
+#define RECOVERY_LINE_SET_WORDS RECOVERY_LINE_PROCESSES
 #define RECOVERY_LINE_PAIR_WORDS 2
-#define RECOVERY_LINE_LENGTHS_WORDS 16
-#define RECOVERY_LINE_ORDER_WORDS 48
-#define RECOVERY_LINE_PARTICIPANT_WORDS 38
-#define RECOVERY_LINE_INITIATOR_WORDS 534
-#define RECOVERY_LINE_SESSION_WORDS 1162
+#define RECOVERY_LINE_LENGTHS_WORDS RECOVERY_LINE_PROCESSES
+
+#define RECOVERY_LINE_ORDER_BEFORE_AT RECOVERY_LINE_SET_WORDS
+#define RECOVERY_LINE_ORDER_AFTER_AT (RECOVERY_LINE_ORDER_BEFORE_AT + RECOVERY_LINE_PROCESSES)
+#define RECOVERY_LINE_ORDER_WORDS (RECOVERY_LINE_ORDER_AFTER_AT + RECOVERY_LINE_PROCESSES)
+
+#define RECOVERY_LINE_PARTICIPANT_PROCESS_AT 1
+#define RECOVERY_LINE_PARTICIPANT_INITIATOR_AT (RECOVERY_LINE_PARTICIPANT_PROCESS_AT + 1)
+#define RECOVERY_LINE_PARTICIPANT_PURPOSE_AT (RECOVERY_LINE_PARTICIPANT_INITIATOR_AT + 1)
+#define RECOVERY_LINE_PARTICIPANT_STAGE_AT (RECOVERY_LINE_PARTICIPANT_PURPOSE_AT + 1)
+#define RECOVERY_LINE_PARTICIPANT_CANDIDATE_AT (RECOVERY_LINE_PARTICIPANT_STAGE_AT + 1)
+#define RECOVERY_LINE_PARTICIPANT_ROW_AT (RECOVERY_LINE_PARTICIPANT_CANDIDATE_AT + 1)
+#define RECOVERY_LINE_PARTICIPANT_COLUMN_AT (RECOVERY_LINE_PARTICIPANT_ROW_AT + RECOVERY_LINE_PROCESSES)
+#define RECOVERY_LINE_PARTICIPANT_WORDS (RECOVERY_LINE_PARTICIPANT_COLUMN_AT + RECOVERY_LINE_PROCESSES)
+
+#define RECOVERY_LINE_INITIATOR_PROCESS_AT 1
+#define RECOVERY_LINE_INITIATOR_PURPOSE_AT (RECOVERY_LINE_INITIATOR_PROCESS_AT + 1)
+#define RECOVERY_LINE_INITIATOR_ENDED_AT (RECOVERY_LINE_INITIATOR_PURPOSE_AT + 1)
+#define RECOVERY_LINE_INITIATOR_CANDIDATE_AT (RECOVERY_LINE_INITIATOR_ENDED_AT + 1)
+#define RECOVERY_LINE_INITIATOR_ROUNDS_AT (RECOVERY_LINE_INITIATOR_CANDIDATE_AT + 1)
+#define RECOVERY_LINE_INITIATOR_AWAITED_AT (RECOVERY_LINE_INITIATOR_ROUNDS_AT + 1)
+#define RECOVERY_LINE_INITIATOR_MATRIX_AT (RECOVERY_LINE_INITIATOR_AWAITED_AT + RECOVERY_LINE_PROCESSES)
+#define RECOVERY_LINE_INITIATOR_COPY_AT (RECOVERY_LINE_INITIATOR_MATRIX_AT + RECOVERY_LINE_MATRIX_ENTRIES)
+#define RECOVERY_LINE_INITIATOR_WORDS (RECOVERY_LINE_INITIATOR_COPY_AT + RECOVERY_LINE_MATRIX_ENTRIES)
+
+/* The machine is the initiator's words. Those of the participant with number p begin (p - 1) * RECOVERY_LINE_PARTICIPANT_WORDS
+ * after RECOVERY_LINE_SESSION_PARTICIPANTS_AT. */
+#define RECOVERY_LINE_SESSION_INITIATOR_AT 1
+#define RECOVERY_LINE_SESSION_PURPOSE_AT (RECOVERY_LINE_SESSION_INITIATOR_AT + 1)
+#define RECOVERY_LINE_SESSION_MACHINE_AT (RECOVERY_LINE_SESSION_PURPOSE_AT + 1)
+#define RECOVERY_LINE_SESSION_PARTICIPANTS_AT (RECOVERY_LINE_SESSION_MACHINE_AT + RECOVERY_LINE_INITIATOR_WORDS)
+#define RECOVERY_LINE_SESSION_LENGTHS_AT \
+    (RECOVERY_LINE_SESSION_PARTICIPANTS_AT + RECOVERY_LINE_PROCESSES * RECOVERY_LINE_PARTICIPANT_WORDS)
+#define RECOVERY_LINE_SESSION_DELIVERED_AT (RECOVERY_LINE_SESSION_LENGTHS_AT + RECOVERY_LINE_PROCESSES)
+#define RECOVERY_LINE_SESSION_WORDS (RECOVERY_LINE_SESSION_DELIVERED_AT + 1)
+
+/* The most bytes of the four numbers before a message's pairs, and of a pair: a process of one byte, and a counter. */
+#define RECOVERY_LINE_HEAD_SIZE 4
+#define RECOVERY_LINE_PAIR_SIZE (1 + RECOVERY_LINE_GROUPS)
 
 /* For n from 1 to 16: the longest message among n processes, and the bytes that always suffice for the messages of one step
  * of the initiator, and for a session's strands. */
-#define RECOVERY_LINE_MESSAGE_BYTES(n) (4 + ((n) - 1) * 6)
+#define RECOVERY_LINE_MESSAGE_BYTES(n) (RECOVERY_LINE_HEAD_SIZE + ((n) - 1) * RECOVERY_LINE_PAIR_SIZE)
 #define RECOVERY_LINE_STRAND_BYTES(n) (((n) - 1) * RECOVERY_LINE_MESSAGE_BYTES(n))
 
 /* The stack that suffices for every call: a quarter more than the most that was measured, rounded up. */
 #define RECOVERY_LINE_STACK_BYTES 77824
+
+/* An entry of a table: a counter. */
+typedef uint32_t recovery_line_counter;
 
 /* A counter that is not known, in a state's rows, columns and matrices; never in tables or messages. */
 #define RECOVERY_LINE_NOT_KNOWN 4294967295u
@@ -102,84 +143,88 @@ extern "C" {
 
 /* Reads a checkpoint book: its counters into the two tables, every entry of both, and its shape.
  * Questions: 1, 2, then along the book, number by number, 3 to 9.
- * Stack: 33792 bytes. */
-uint32_t recovery_line_read(const uint8_t *bytes, size_t bytes_len, uint64_t *shape, size_t shape_len, uint32_t *sent,
-                            size_t sent_len, uint32_t *received, size_t received_len);
+ * Stack: 36864 bytes. */
+uint32_t recovery_line_read(const uint8_t *bytes, size_t bytes_len, uint64_t *shape, size_t shape_len,
+                            recovery_line_counter *sent, size_t sent_len, recovery_line_counter *received,
+                            size_t received_len);
 
 /* Checks lent tables, and changes nothing.
  * Questions of tables, which every call below puts first: 2, 4, all of 5, then 6 to 8 in book order, then 9.
  * Stack: 1024 bytes. */
-uint32_t recovery_line_check(const uint64_t *shape, size_t shape_len, const uint32_t *sent, size_t sent_len,
-                             const uint32_t *received, size_t received_len);
+uint32_t recovery_line_check(const uint64_t *shape, size_t shape_len, const recovery_line_counter *sent,
+                             size_t sent_len, const recovery_line_counter *received, size_t received_len);
 
 /* Writes the book of the tables to the start of `out`, and its length; the bytes after it stay. RECOVERY_LINE_BOOK_BYTES
  * bytes always suffice.
  * Questions: the tables', 17.
  * Stack: 5120 bytes. */
-uint32_t recovery_line_write(const uint64_t *shape, size_t shape_len, const uint32_t *sent, size_t sent_len,
-                             const uint32_t *received, size_t received_len, uint8_t *out, size_t out_len,
-                             uint64_t *length);
+uint32_t recovery_line_write(const uint64_t *shape, size_t shape_len, const recovery_line_counter *sent,
+                             size_t sent_len, const recovery_line_counter *received, size_t received_len, uint8_t *out,
+                             size_t out_len, uint64_t *length);
 
 /* Tests a set: `pair` becomes 0 0 if it is consistent, and else a pair (j, p) at fault: j's checkpoint received more from p
  * than p's sent to j. Which, where there are several, is not promised.
  * Questions: the tables', 12.
  * Stack: 2048 bytes. */
-uint32_t recovery_line_test_set(const uint64_t *shape, size_t shape_len, const uint32_t *sent, size_t sent_len,
-                                const uint32_t *received, size_t received_len, const uint64_t *set, size_t set_len,
-                                uint64_t *pair, size_t pair_len);
+uint32_t recovery_line_test_set(const uint64_t *shape, size_t shape_len, const recovery_line_counter *sent,
+                                size_t sent_len, const recovery_line_counter *received, size_t received_len,
+                                const uint64_t *set, size_t set_len, uint64_t *pair, size_t pair_len);
 
 /* Finds the line, and how many checkpoints are newer than the line's.
  * Questions: the tables'.
  * Stack: 2048 bytes. */
-uint32_t recovery_line_find(const uint64_t *shape, size_t shape_len, const uint32_t *sent, size_t sent_len,
-                            const uint32_t *received, size_t received_len, uint64_t *line, size_t line_len,
+uint32_t recovery_line_find(const uint64_t *shape, size_t shape_len, const recovery_line_counter *sent, size_t sent_len,
+                            const recovery_line_counter *received, size_t received_len, uint64_t *line, size_t line_len,
                             uint64_t *passed);
 
 /* Makes a participant's first state, before its invitation. Beyond the check, the calls of the machines go by n and the rows of
  * their own process: who has no others lends one checkpoint of zeros for each other process.
  * Questions: the tables', 10, 11.
  * Stack: 2048 bytes. */
-uint32_t recovery_line_participant_first(const uint64_t *shape, size_t shape_len, const uint32_t *sent, size_t sent_len,
-                                         const uint32_t *received, size_t received_len, uint64_t me,
-                                         uint64_t initiator, uint64_t purpose, uint64_t *state, size_t state_len);
+uint32_t recovery_line_participant_first(const uint64_t *shape, size_t shape_len, const recovery_line_counter *sent,
+                                         size_t sent_len, const recovery_line_counter *received, size_t received_len,
+                                         uint64_t me, uint64_t initiator, uint64_t purpose, uint64_t *state,
+                                         size_t state_len);
 
 /* A participant receives a message: its state after the step, its report at the start of `out`, and the length for each
  * process; what ends it is not answered, and all lengths are 0 then. RECOVERY_LINE_MESSAGE_BYTES(n) bytes always suffice.
  * Questions: the tables', 10, 11, 13, 14, 15, 16, 17.
  * Stack: 6144 bytes. */
 uint32_t recovery_line_participant_receive(uint64_t *state, size_t state_len, const uint64_t *shape, size_t shape_len,
-                                           const uint32_t *sent, size_t sent_len, const uint32_t *received,
-                                           size_t received_len, const uint8_t *message, size_t message_len,
-                                           uint8_t *out, size_t out_len, uint64_t *lengths, size_t lengths_len);
+                                           const recovery_line_counter *sent, size_t sent_len,
+                                           const recovery_line_counter *received, size_t received_len,
+                                           const uint8_t *message, size_t message_len, uint8_t *out, size_t out_len,
+                                           uint64_t *lengths, size_t lengths_len);
 
 /* Process `me` begins a search, or with purpose 2 a bare restart: its first state, and the invitations at the start of
  * `out`, one after another, rising by receiver, with the length for each process. RECOVERY_LINE_STRAND_BYTES(n) bytes always
  * suffice.
  * Questions: the tables', 10, 11, 17.
  * Stack: 12288 bytes. */
-uint32_t recovery_line_initiator_begin(const uint64_t *shape, size_t shape_len, const uint32_t *sent, size_t sent_len,
-                                       const uint32_t *received, size_t received_len, uint64_t me, uint64_t purpose,
-                                       uint64_t *state, size_t state_len, uint8_t *out, size_t out_len,
-                                       uint64_t *lengths, size_t lengths_len);
+uint32_t recovery_line_initiator_begin(const uint64_t *shape, size_t shape_len, const recovery_line_counter *sent,
+                                       size_t sent_len, const recovery_line_counter *received, size_t received_len,
+                                       uint64_t me, uint64_t purpose, uint64_t *state, size_t state_len, uint8_t *out,
+                                       size_t out_len, uint64_t *lengths, size_t lengths_len);
 
 /* An initiator receives a report: its state after the step, and what it sends (nothing, polls or terminations) as
  * `recovery_line_initiator_begin` writes invitations. RECOVERY_LINE_STRAND_BYTES(n) bytes always suffice.
  * Questions: the tables', 10, 11, 13, 14, 15, 16, 17.
  * Stack: 21504 bytes. */
 uint32_t recovery_line_initiator_receive(uint64_t *state, size_t state_len, const uint64_t *shape, size_t shape_len,
-                                         const uint32_t *sent, size_t sent_len, const uint32_t *received,
-                                         size_t received_len, const uint8_t *message, size_t message_len, uint8_t *out,
-                                         size_t out_len, uint64_t *lengths, size_t lengths_len);
+                                         const recovery_line_counter *sent, size_t sent_len,
+                                         const recovery_line_counter *received, size_t received_len,
+                                         const uint8_t *message, size_t message_len, uint8_t *out, size_t out_len,
+                                         uint64_t *lengths, size_t lengths_len);
 
 /* Starts a session: all machines of one search in one place. Each invitation waits at the start of its strand's slot in
  * `strands`: RECOVERY_LINE_MESSAGE_BYTES(n) bytes for each participant, in rising order, none for the initiator; every other
  * byte stays. RECOVERY_LINE_STRAND_BYTES(n) bytes always suffice.
  * Questions: the tables', 10, 11, 17.
  * Stack: 39936 bytes. */
-uint32_t recovery_line_session_start(const uint64_t *shape, size_t shape_len, const uint32_t *sent, size_t sent_len,
-                                     const uint32_t *received, size_t received_len, uint64_t initiator,
-                                     uint64_t purpose, uint64_t *session, size_t session_len, uint8_t *strands,
-                                     size_t strands_len);
+uint32_t recovery_line_session_start(const uint64_t *shape, size_t shape_len, const recovery_line_counter *sent,
+                                     size_t sent_len, const recovery_line_counter *received, size_t received_len,
+                                     uint64_t initiator, uint64_t purpose, uint64_t *session, size_t session_len,
+                                     uint8_t *strands, size_t strands_len);
 
 /* A turn: the message that waits on process p's strand is delivered, and the replies wait then. Session, strands and tables are
  * as the start or the turn before left them. RECOVERY_LINE_STRAND_BYTES(n) bytes always suffice. What then holds after every
@@ -187,30 +232,33 @@ uint32_t recovery_line_session_start(const uint64_t *shape, size_t shape_len, co
  * Questions: the tables', 10, 11, 13, 17, 18.
  * Stack: 60416 bytes. */
 uint32_t recovery_line_session_turn(uint64_t *session, size_t session_len, const uint64_t *shape, size_t shape_len,
-                                    const uint32_t *sent, size_t sent_len, const uint32_t *received,
-                                    size_t received_len, uint64_t p, uint8_t *strands, size_t strands_len);
+                                    const recovery_line_counter *sent, size_t sent_len,
+                                    const recovery_line_counter *received, size_t received_len, uint64_t p,
+                                    uint8_t *strands, size_t strands_len);
 
 /* A search from its start to its end, lowest waiting strand first: the set on which everybody ended, how many checkpoints are
  * newer than it, and the rounds and messages that it took. With purpose 1 or 3 `set` and `newer` are the line and T; with
  * purpose 2 checkpoint 1 everywhere, and how many checkpoints are newer than those.
  * Questions: the tables', 10, 11.
  * Stack: 51200 bytes. */
-uint32_t recovery_line_search(const uint64_t *shape, size_t shape_len, const uint32_t *sent, size_t sent_len,
-                              const uint32_t *received, size_t received_len, uint64_t initiator, uint64_t purpose,
-                              uint64_t *set, size_t set_len, uint64_t *newer, uint64_t *rounds, uint64_t *messages);
+uint32_t recovery_line_search(const uint64_t *shape, size_t shape_len, const recovery_line_counter *sent,
+                              size_t sent_len, const recovery_line_counter *received, size_t received_len,
+                              uint64_t initiator, uint64_t purpose, uint64_t *set, size_t set_len, uint64_t *newer,
+                              uint64_t *rounds, uint64_t *messages);
 
 /* Moves the line in the tables, every entry of both, with their shape, and gives the restart order.
  * Questions: the tables', 11.
  * Stack: 13312 bytes. */
-uint32_t recovery_line_move(uint64_t *shape, size_t shape_len, uint32_t *sent, size_t sent_len, uint32_t *received,
-                            size_t received_len, uint64_t purpose, uint64_t *order, size_t order_len);
+uint32_t recovery_line_move(uint64_t *shape, size_t shape_len, recovery_line_counter *sent, size_t sent_len,
+                            recovery_line_counter *received, size_t received_len, uint64_t purpose, uint64_t *order,
+                            size_t order_len);
 
 /* Gives the restart order that `recovery_line_move` would give, and moves nothing.
  * Questions: the tables', 11.
  * Stack: 13312 bytes. */
-uint32_t recovery_line_restart_order(const uint64_t *shape, size_t shape_len, const uint32_t *sent, size_t sent_len,
-                                     const uint32_t *received, size_t received_len, uint64_t purpose, uint64_t *order,
-                                     size_t order_len);
+uint32_t recovery_line_restart_order(const uint64_t *shape, size_t shape_len, const recovery_line_counter *sent,
+                                     size_t sent_len, const recovery_line_counter *received, size_t received_len,
+                                     uint64_t purpose, uint64_t *order, size_t order_len);
 
 #ifdef __cplusplus
 }

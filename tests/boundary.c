@@ -31,8 +31,8 @@ struct kind {
 static const struct kind kinds[SLICES] = {
     {"bytes", 1, 28, false},
     {"shape", 8, RECOVERY_LINE_SHAPE_WORDS, true},
-    {"sent", 4, RECOVERY_LINE_TABLE_ENTRIES, false},
-    {"received", 4, RECOVERY_LINE_TABLE_ENTRIES, false},
+    {"sent", sizeof(recovery_line_counter), RECOVERY_LINE_TABLE_ENTRIES, false},
+    {"received", sizeof(recovery_line_counter), RECOVERY_LINE_TABLE_ENTRIES, false},
     {"out", 1, 64, false},
     {"set", 8, RECOVERY_LINE_SET_WORDS, true},
     {"pair", 8, RECOVERY_LINE_PAIR_WORDS, true},
@@ -69,10 +69,10 @@ static uint8_t *arena, *prepared;
 static size_t arena_size, place[SLICES];
 
 #define U8(slice) (uint8_t *)lent[slice].start, lent[slice].elements
-#define U32(slice) (uint32_t *)lent[slice].start, lent[slice].elements
+#define COUNTERS(slice) (recovery_line_counter *)lent[slice].start, lent[slice].elements
 #define U64(slice) (uint64_t *)lent[slice].start, lent[slice].elements
 #define NUMBER(slice) (uint64_t *)lent[slice].start
-#define LENT_TABLES U64(SHAPE), U32(SENT), U32(RECEIVED)
+#define LENT_TABLES U64(SHAPE), COUNTERS(SENT), COUNTERS(RECEIVED)
 
 static uint32_t call_read(void) { return recovery_line_read(U8(BYTES), LENT_TABLES); }
 static uint32_t call_check(void) { return recovery_line_check(LENT_TABLES); }

@@ -24,7 +24,7 @@ static uint64_t shape[RECOVERY_LINE_SHAPE_WORDS], set[RECOVERY_LINE_SET_WORDS], 
 static uint64_t line[RECOVERY_LINE_SET_WORDS], order[RECOVERY_LINE_ORDER_WORDS], lengths[RECOVERY_LINE_LENGTHS_WORDS];
 static uint64_t participants[PROCESSES][RECOVERY_LINE_PARTICIPANT_WORDS], initiator[RECOVERY_LINE_INITIATOR_WORDS];
 static uint64_t session[RECOVERY_LINE_SESSION_WORDS];
-static uint32_t sent[ENTRIES], received[ENTRIES];
+static recovery_line_counter sent[ENTRIES], received[ENTRIES];
 static uint64_t book_length, passed, rounds, messages, first, me, purpose;
 static const uint8_t *message;
 static size_t message_length;
@@ -157,13 +157,13 @@ static void accepted(enum call call) {
 
 /* Tables of n processes with that many checkpoints each, whose counters rise by `step`. Where they fall, each checkpoint has
  * received more from the process before than that one's checkpoint of the same number sent: all go back to the oldest. */
-static void make_tables(unsigned n, unsigned each, uint32_t step, bool fall) {
+static void make_tables(unsigned n, unsigned each, recovery_line_counter step, bool fall) {
     memset(shape, 0, sizeof shape);
     memset(sent, 0, sizeof sent);
     memset(received, 0, sizeof received);
     shape[0] = n;
     for (unsigned j = 0; j < n; j++) {
-        shape[1 + j] = each;
+        shape[RECOVERY_LINE_SHAPE_COUNTS_AT + j] = each;
         for (unsigned r = 1; r < each; r++) {
             for (unsigned p = 0; p < n; p++) {
                 unsigned entry = (j * each + r) * PROCESSES + p;
@@ -185,7 +185,7 @@ static void measure_books(void) {
     measure(READ);
     book_length++;
     for (unsigned p = 0; p < PROCESSES; p++) {
-        set[p] = shape[1 + p];
+        set[p] = shape[RECOVERY_LINE_SHAPE_COUNTS_AT + p];
     }
     accepted(TEST_SET);
     accepted(FIND);

@@ -3,21 +3,21 @@ use mathlib.Core.Path.{_≡_}
 use mathlib.Core.Bool.{Bool, true, false}
 use Prim.Native.Nat.{ℕ, _≤_, _<_}
 use borrow.Author.Tests.{lt-ltb, le-ltb, le-leb, lt-leb}
-use Rattle.book.specs.Questions.{zeroIfOldest, counterQuestion}
+use Rattle.book.specs.Questions.{zeroIfAsked, counterQuestion}
 
-module _ (mark : ℕ) (oldest : Bool) (before v : ℕ) where
-  pub is-mark : mark ≤ v → 6 ≡ counterQuestion mark oldest before v
+module _ (mark : ℕ) (zeros : Bool) (before v : ℕ) where
+  pub is-mark : mark ≤ v → 6 ≡ counterQuestion mark zeros before v
   unfolding counterQuestion
   is-mark h = rw (le-ltb v mark h)
 
-  pub not-zero : v < mark → zeroIfOldest oldest v ≡ false → 7 ≡ counterQuestion mark oldest before v
+  pub not-zero : v < mark → zeroIfAsked zeros v ≡ false → 7 ≡ counterQuestion mark zeros before v
   unfolding counterQuestion
   not-zero h k = rw (lt-ltb v mark h, k)
 
-  pub fell : v < mark → zeroIfOldest oldest v ≡ true → v < before → 8 ≡ counterQuestion mark oldest before v
+  pub fell : v < mark → zeroIfAsked zeros v ≡ true → v < before → 8 ≡ counterQuestion mark zeros before v
   unfolding counterQuestion
   fell h k f = rw (lt-ltb v mark h, k, lt-leb before v f)
 
-  pub good : v < mark → zeroIfOldest oldest v ≡ true → before ≤ v → 0 ≡ counterQuestion mark oldest before v
+  pub good : v < mark → zeroIfAsked zeros v ≡ true → before ≤ v → 0 ≡ counterQuestion mark zeros before v
   unfolding counterQuestion
   good h k f = rw (lt-ltb v mark h, k, le-leb before v f)

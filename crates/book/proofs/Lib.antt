@@ -1,4 +1,5 @@
 pub mod Asked
+pub mod Bounds
 pub mod Before
 pub mod Counters
 pub mod Counts
@@ -8,3 +9,5 @@ pub mod Rows
 pub mod Starts
 pub mod Stores
 pub mod Sums
+pub mod Values
+pub mod Zeros

@@ -1,7 +1,5 @@
--- Rows of tables and checkpoints of books: their lengths, the counters of a row for the other processes, and the
--- questions of counters that stand in two parts.
+-- Rows of tables and checkpoints of books: their lengths, and the counters of a row for the other processes.
 use mathlib.Core.Path.{_≡_, refl, sym, ap, _∙_}
-use mathlib.Core.Bool.{Bool}
 use mathlib.Core.List.{List, [], _∷_, _++_, append-assoc}
 use Prim.Native.Nat.{ℕ, zero, suc, _+_, _-_, _*_, _≤_, _<_}
 use native.Mathlib.Nat.{zero-add, suc-add}
@@ -12,10 +10,6 @@ use lib.ListN.{length, take, drop, getD, replicate, length-append, length-take, 
 use lib.Seq.{length-take-le, take-at, getD-append-add, getD-drop, getD-take, drop-drop, take-nil}
 use Rattle.book.specs.Layout.{checkpointsIn}
 use Rattle.book.specs.Tables.{tableRow, others, partnerColumn, checkpointsOf}
-use Rattle.book.specs.InTurn.{_then_}
-use Rattle.book.specs.Questions.{counterQuestion}
-use Rattle.book.specs.Along.{countersQuestion}
-use Rattle.book.proofs.Questions.{then-assoc}
 
 -- a book's numbers hold as many checkpoints as are asked for
 pub length-in : (c w : ℕ) (vs : List ℕ) → length (checkpointsIn c w vs) ≡ c
@@ -89,17 +83,6 @@ getD-others n j k row h long i = elim (decLt k j) [ yes lt ↦ low lt | no ge �
         ∙ getD-drop (suc j) (take n row) (k - j) 0
         ∙ ap (λ (i : ℕ). getD (take n row) i 0) there
         ∙ getD-take n row (k + 1) 0 (omega arith))
-
--- counters in two parts: those of the first part are asked first
-pub counters-append : (mark : ℕ) (oldest : Bool) (b₁ b₂ v₁ v₂ : List ℕ) → length b₁ ≡ length v₁
-    → countersQuestion mark oldest (b₁ ++ b₂) (v₁ ++ v₂) ≡ (countersQuestion mark oldest b₁ v₁ then λ _. countersQuestion mark oldest b₂ v₂)
-unfolding countersQuestion
-counters-append mark oldest [] b₂ [] v₂ h = refl
-counters-append mark oldest [] b₂ (v ∷ v₁) v₂ h = absurd (omega arith)
-counters-append mark oldest (b ∷ b₁) b₂ [] v₂ h = absurd (omega arith)
-counters-append mark oldest (b ∷ b₁) b₂ (v ∷ v₁) v₂ h =
-    ap (λ (r : ℕ). counterQuestion mark oldest b v then λ _. r) (counters-append mark oldest b₁ b₂ v₁ v₂ (omega arith))
-    ∙ sym (then-assoc (counterQuestion mark oldest b v) (λ _. countersQuestion mark oldest b₁ v₁) (λ _. countersQuestion mark oldest b₂ v₂))
 
 -- the rows of so many checkpoints are skipped
 pub drop-rows : (first count : ℕ) (table : List ℕ) → drop (count * 16) (drop (first * 16) table) ≡ drop ((first + count) * 16) table

@@ -1,17 +1,18 @@
 -- The first rows of all processes: each is the sum of the counts before it, and one loop finds them.
-use mathlib.Core.Path.{_≡_, refl, sym, _∙_, ap}
-use mathlib.Core.List.{List, [], _∷_, _++_, append-nil}
+use mathlib.Core.Path.{_≡_, refl, sym, subst, _∙_, ap}
+use mathlib.Core.List.{List, [], _∷_}
 use Prim.Native.Nat.{ℕ, zero, suc, _+_, _≤_, _<_}
-use native.Mathlib.Numerals.{add-one}
 use native.Mathlib.Omega.{arith}
-use lib.ListN.{length, take, drop, getD, set, length-set, drop-of-length-le}
-use lib.Seq.{take-all, take-suc-set, drop-cons, append-snoc}
+use lib.ListN.{length, getD}
+use Rattle.lists.proofs.Over.{tab-is}
+use Rattle.lists.proofs.Filling.{Filled, filled-all}
 use Rattle.book.specs.declared.Shape.{Shape}
 use Rattle.book.specs.declared.TableRows.{TableRows}
+use Rattle.book.specs.Lent.{lent}
 use Rattle.book.specs.View.{sum, firstRow, startsFrom, firstRows, counterFrom, counterAt, count}
 use Rattle.book.specs.Fits.{Placed}
+use Rattle.book.specs.Accepted.{AreAccepted, AcceptedRows}
 use Rattle.book.proofs.Sums.{sum-more, sum-take, row-within}
-use Rattle.book.proofs.Fits.{first-none, first-more}
 
 getD-starts : (counts : List ℕ) (first j : ℕ) → j < length counts → getD (startsFrom first counts) j 0 ≡ first + firstRow counts j
 unfolding startsFrom sum
@@ -23,10 +24,11 @@ getD-starts (count ∷ counts) first (suc j) h = let ih = getD-starts counts (fi
 pub getD-firstRows : (counts : List ℕ) (j : ℕ) → j < length counts → getD (firstRows counts) j 0 ≡ firstRow counts j
 getD-firstRows counts j h = omega (arith, getD-starts counts 0 j h)
 
--- what a caller of `rows_of` knows
-pub placed-of : {rows : TableRows} {shape : Shape} → rows .shape ≡ shape → rows .first ≡ firstRows (shape .counts) → sum (shape .counts) ≤ 256
-    → Placed rows
-placed-of e f h = record { starts = rw e f; inside = rw e h }
+-- what a call that was lent accepted tables knows of the rows that it finds
+pub rows-accepted : {rows : TableRows} {shape : Shape} {sent received : List ℕ} → AreAccepted (lent shape sent received)
+    → (rows .shape ≡ shape) × (rows .first ≡ firstRows (shape .counts)) → AcceptedRows rows sent received
+rows-accepted {rows} {shape} {sent} {received} accepted (e, f) =
+    record { accepted = subst (λ (s : Shape). AreAccepted (lent s sent received)) (sym e) accepted; starts = rw e f }
 
 -- what one who reads counters of process j needs: where its rows begin, that a checkpoint's row is in the table, and which
 -- counter stands there
@@ -41,36 +43,19 @@ module _ {rows : TableRows} (placed : Placed rows) (j : ℕ) (h : j < length (ro
   pub placed-counter : (table : List ℕ) (r p : ℕ) → counterFrom table (getD (rows .first) j 0) r p ≡ counterAt (rows .shape .counts) table j r p
   placed-counter table r p = ap (λ (first : ℕ). counterFrom table first r p) placed-first
 
--- the first rows of j processes stand there, and `row` is where the next begins
-pub record Begun (counts first : List ℕ) (row j : ℕ) : Type 0 where
-  pub within : j ≤ 16
-  pub whole : length first ≡ 16
-  pub place : row ≡ firstRow counts j
-  pub done : take j first ++ startsFrom row (drop j counts) ≡ firstRows counts
+-- ---- the loop that finds them: the first rows of j processes stand there, and `row` is where the next begins
 
-pub begun-none : (counts first : List ℕ) → length first ≡ 16 → Begun counts first 0 0
-begun-none counts first h = record { within = omega arith; whole = h; place = first-none counts; done = refl }
+-- the next start is within the tables too
+pub next-within : {row : ℕ} (counts : List ℕ) (j : ℕ) → row ≡ firstRow counts j → sum counts ≤ 256 → row + getD counts j 0 ≤ 256
+next-within counts j e h = omega (arith, sum-more counts j, sum-take counts (suc j))
 
-module _ (counts first : List ℕ) (row j : ℕ) (long : length counts ≡ 16) (inv : Begun counts first row j) where
-  -- the next start is within the tables too
-  pub begun-within : sum counts ≤ 256 → row + getD counts j 0 ≤ 256
-  begun-within h = omega (arith, inv .place, sum-more counts j, sum-take counts (suc j))
+length-starts : (counts : List ℕ) (first : ℕ) → length (startsFrom first counts) ≡ length counts
+unfolding startsFrom
+length-starts [] first = refl
+length-starts (count ∷ counts) first = ap suc (length-starts counts (first + count))
 
-  pub begun-more : j < 16 → Begun counts (set first j row) (row + getD counts j 0) (j + 1)
-  unfolding startsFrom
-  begun-more h =
-      let there : j < length first = omega (arith, inv .whole) in
-      let next : drop j counts ≡ getD counts j 0 ∷ drop (suc j) counts = drop-cons counts j 0 (omega arith) in
-      record {
-        within = omega arith;
-        whole = length-set first j row ∙ inv .whole;
-        place = first-more counts j (inv .place);
-        done = rw (add-one j, take-suc-set first j row there, append-snoc (take j first) row) (rw next at (inv .done));
-      }
-
-  pub begun-ended : 16 ≤ j → first ≡ firstRows counts
-  unfolding startsFrom
-  begun-ended h =
-      let all : take j first ≡ first = take-all j first (omega (arith, inv .whole)) in
-      let none : drop j counts ≡ [] = drop-of-length-le counts {i = j} (omega arith) in
-      sym (append-nil first) ∙ rw (all, none) at (inv .done)
+pub starts-found : {before first : List ℕ} {j : ℕ} (counts : List ℕ) → length counts ≡ 16 → length before ≡ 16
+    → Filled 0 before 16 (firstRow counts) first j → 16 ≤ j → first ≡ firstRows counts
+starts-found counts long sixteen filled h =
+    filled-all filled sixteen h
+    ∙ sym (tab-is 0 16 (firstRow counts) (firstRows counts) (length-starts counts 0 ∙ long) (λ j m. getD-firstRows counts j (omega (arith, long))))

@@ -1,29 +1,43 @@
 -- Document 01: "Then along the book, number by number": questions 3 to 9. The mark of question 6 is an argument.
 use mathlib.Core.Bool.{Bool, true, false}
 use mathlib.Core.List.{List, [], _∷_}
-use Prim.Native.Nat.{ℕ, zero, suc, _+_, _*_}
-use lib.ListN.{length, take, drop, replicate}
+use Prim.Native.Nat.{ℕ, zero, suc, _+_, _-_, _*_}
+use lib.ListN.{take, drop, replicate}
 use Rattle.book.specs.Layout.{width}
 use Rattle.book.specs.InTurn.{_then_, ask}
 use Rattle.book.specs.Questions.{sizeQuestion, countQuestion, counterQuestion, nothingFollows}
 
--- the counters of one checkpoint, one for each of the checkpoint before it; where no number is left, question 3 fails
+-- one half of a checkpoint, its sent or its received counters, one for each of the same half one checkpoint before; where no
+-- number is left, question 3 fails
 unfoldable pub countersQuestion : ℕ → Bool → List ℕ → List ℕ → ℕ
-countersQuestion mark oldest [] vs = 0
-countersQuestion mark oldest (b ∷ before) [] = 3
-countersQuestion mark oldest (b ∷ before) (v ∷ vs) =
-    counterQuestion mark oldest b v then λ _. countersQuestion mark oldest before vs
+countersQuestion mark zeros [] vs = 0
+countersQuestion mark zeros (b ∷ before) [] = 3
+countersQuestion mark zeros (b ∷ before) (v ∷ vs) =
+    counterQuestion mark zeros b v then λ _. countersQuestion mark zeros before vs
+
+-- "the oldest checkpoint holds zeros": which of its halves question 7 asks
+unfoldable pub sentZeros : Bool → Bool
+sentZeros oldest = oldest
+
+unfoldable pub receivedZeros : Bool → Bool
+receivedZeros oldest = oldest
+
+-- one checkpoint, given the one before: its sent half, then its received half
+unfoldable pub checkpointQuestion : ℕ → ℕ → Bool → List ℕ → List ℕ → ℕ
+checkpointQuestion mark n oldest before vs =
+    countersQuestion mark (sentZeros oldest) (take (n - 1) before) vs
+    then λ _. countersQuestion mark (receivedZeros oldest) (drop (n - 1) before) (drop (n - 1) vs)
 
 -- the checkpoints of one process, oldest first
-unfoldable pub checkpointsQuestion : ℕ → Bool → List ℕ → ℕ → List ℕ → ℕ
-checkpointsQuestion mark oldest before zero vs = 0
-checkpointsQuestion mark oldest before (suc left) vs =
-    countersQuestion mark oldest before vs
-    then λ _. checkpointsQuestion mark false (take (length before) vs) left (drop (length before) vs)
+unfoldable pub checkpointsQuestion : ℕ → ℕ → Bool → List ℕ → ℕ → List ℕ → ℕ
+checkpointsQuestion mark n oldest before zero vs = 0
+checkpointsQuestion mark n oldest before (suc left) vs =
+    checkpointQuestion mark n oldest before vs
+    then λ _. checkpointsQuestion mark n false (take (width n) vs) left (drop (width n) vs)
 
 -- all checkpoints of a process with `count` of them: before the oldest there is nothing to be lower than
 abbrev pub processQuestion : ℕ → ℕ → ℕ → List ℕ → ℕ
-processQuestion mark n count vs = checkpointsQuestion mark true (replicate (width n) 0) count vs
+processQuestion mark n count vs = checkpointsQuestion mark n true (replicate (width n) 0) count vs
 
 -- the processes that are left, after those with `sum` checkpoints
 unfoldable pub processesQuestion : ℕ → ℕ → ℕ → ℕ → Bool → List ℕ → ℕ

@@ -2,7 +2,7 @@
 use mathlib.Core.List.{List, [], _∷_}
 use Prim.Native.Nat.{ℕ, _+_}
 use lib.ListN.{length, take}
-use Rattle.book.specs.declared.Shape.{Shape}
+use Rattle.book.specs.Lent.{Tables}
 use Rattle.book.specs.Bounds.{mark}
 use Rattle.book.specs.Layout.{joined}
 use Rattle.book.specs.Tables.{bookOf}
@@ -21,11 +21,14 @@ rowsQuestion mark′ n [] = 0
 rowsQuestion mark′ n (checkpoints ∷ more) =
     processQuestion mark′ n (length checkpoints) (joined checkpoints) then λ _. rowsQuestion mark′ n more
 
+-- the questions after 2
+unfoldable pub contentsQuestion : Tables → ℕ
+contentsQuestion tables =
+    sizeQuestion (tables .shape .n)
+    then λ _. countsQuestion 0 (take (tables .shape .n) (tables .shape .counts))
+    then λ _. rowsQuestion mark (tables .shape .n) (bookOf tables .processes)
+    then λ _. ask 9 (unusedZero tables)
+
 -- the first question that lent tables fail
-unfoldable pub tablesQuestion : Shape → List ℕ → List ℕ → ℕ
-tablesQuestion shape sent received =
-    lengthQuestion sent received
-    then λ _. sizeQuestion (shape .n)
-    then λ _. countsQuestion 0 (take (shape .n) (shape .counts))
-    then λ _. rowsQuestion mark (shape .n) (bookOf shape sent received .processes)
-    then λ _. ask 9 (unusedZero shape sent received)
+unfoldable pub tablesQuestion : Tables → ℕ
+tablesQuestion tables = lengthQuestion (tables .sent) (tables .received) then λ _. contentsQuestion tables

@@ -2,11 +2,13 @@ pub mod Bounds
 pub mod Names
 pub mod Layout
 pub mod Tables
+pub mod Lent
 pub mod View
 pub mod InTurn
 pub mod Questions
 pub mod Along
 pub mod Check
+pub mod Accepted
 pub mod Read
 pub mod Write
 pub mod Fits

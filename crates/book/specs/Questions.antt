@@ -5,7 +5,7 @@ use mathlib.Core.List.{List, [], _∷_, _++_}
 use Prim.Native.Nat.{ℕ, zero, suc, _+_, _*_}
 use lib.ListN.{length, take, drop, getD}
 use lib.Dec.{ltb, leb, eqb}
-use Rattle.book.specs.declared.Shape.{Shape}
+use Rattle.book.specs.Lent.{Tables}
 use Rattle.book.specs.Bounds.{mostProcesses, mostCheckpoints, mostBytes, rowWidth, entries}
 use Rattle.book.specs.InTurn.{_then_, ask}
 
@@ -25,16 +25,16 @@ sizeQuestion n = ask 4 (leb 1 n && leb n mostProcesses)
 abbrev pub countQuestion : ℕ → ℕ → ℕ
 countQuestion sum count = ask 5 (leb 1 count && leb (sum + count) mostCheckpoints)
 
--- question 7 asks only the counters of an oldest checkpoint
-abbrev pub zeroIfOldest : Bool → ℕ → Bool
-zeroIfOldest true v = eqb v 0
-zeroIfOldest false v = true
+-- question 7 asks only counters that must be zero
+abbrev pub zeroIfAsked : Bool → ℕ → Bool
+zeroIfAsked true v = eqb v 0
+zeroIfAsked false v = true
 
--- 6: is the counter other than the mark (and below it: no wider number passes)? 7: is it zero, in an oldest checkpoint?
--- 8: is it no lower than the same counter one checkpoint before?
+-- 6: is the counter other than the mark (and below it: no wider number passes)? 7: is it zero, where `zeros` says that it must
+-- be? 8: is it no lower than the same counter one checkpoint before?
 unfoldable pub counterQuestion : ℕ → Bool → ℕ → ℕ → ℕ
-counterQuestion mark oldest before v =
-    ask 6 (ltb v mark) then λ _. ask 7 (zeroIfOldest oldest v) then λ _. ask 8 (leb before v)
+counterQuestion mark zeros before v =
+    ask 6 (ltb v mark) then λ _. ask 7 (zeroIfAsked zeros v) then λ _. ask 8 (leb before v)
 
 -- 9: does nothing follow? No number is left, and the numbers end where the bytes end.
 abbrev pub nothingFollows : Bool → List ℕ → Bool
@@ -57,8 +57,8 @@ unusedFrom n j [] table = table
 unusedFrom n j (count ∷ counts) table = unusedOf n j count table ++ unusedFrom n (suc j) counts (drop (count * rowWidth) table)
 
 -- 9: in tables, is everything unused zero?
-abbrev pub unusedZero : Shape → List ℕ → List ℕ → Bool
-unusedZero shape sent received =
-    allZero (drop (shape .n) (shape .counts))
-    && (allZero (unusedFrom (shape .n) 0 (take (shape .n) (shape .counts)) sent)
-    && allZero (unusedFrom (shape .n) 0 (take (shape .n) (shape .counts)) received))
+abbrev pub unusedZero : Tables → Bool
+unusedZero tables =
+    allZero (drop (tables .shape .n) (tables .shape .counts))
+    && (allZero (unusedFrom (tables .shape .n) 0 (take (tables .shape .n) (tables .shape .counts)) (tables .sent))
+    && allZero (unusedFrom (tables .shape .n) 0 (take (tables .shape .n) (tables .shape .counts)) (tables .received)))

@@ -4,6 +4,7 @@ use mathlib.Core.List.{List}
 use Prim.Native.Nat.{ℕ}
 use lib.ListN.{length, replicate}
 use lib.Dec.{eqb}
+use Rattle.book.specs.Lent.{Tables, lent}
 use Rattle.varint.specs.Sequence.{Numbers, numbersAt}
 use Rattle.book.specs.declared.Shape.{Shape}
 use Rattle.book.specs.Bounds.{groups, largest, mark, mostProcesses}
@@ -47,3 +48,8 @@ sentRead bytes sent received = unlessRefused (readQuestion bytes sent received) 
 
 unfoldable pub receivedRead : List ℕ → List ℕ → List ℕ → List ℕ
 receivedRead bytes sent received = unlessRefused (readQuestion bytes sent received) received (receivedTable (bookRead bytes))
+
+-- all of them
+abbrev pub tablesRead : List ℕ → List ℕ → List ℕ → Tables
+tablesRead bytes sent received =
+    lent (shapeRead bytes sent received) (sentRead bytes sent received) (receivedRead bytes sent received)

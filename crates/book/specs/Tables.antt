@@ -6,6 +6,7 @@ use mathlib.Core.Bool.{Bool, true, false}
 use Prim.Native.Nat.{ℕ, zero, suc, _+_, _-_, _*_}
 use lib.Dec.{ltb}
 use lib.ListN.{length, take, drop, replicate}
+use Rattle.book.specs.Lent.{Tables, lent}
 use Rattle.book.specs.declared.Shape.{Shape}
 use Rattle.book.specs.Bounds.{mostProcesses, rowWidth, entries}
 use Rattle.book.specs.Layout.{Book}
@@ -41,6 +42,10 @@ countsOf (checkpoints ∷ more) = length checkpoints ∷ countsOf more
 abbrev pub shapeOf : Book → Shape
 shapeOf book = record { n = book .n; counts = padded mostProcesses (countsOf (book .processes)) }
 
+-- all of them
+abbrev pub tablesOf : Book → Tables
+tablesOf book = lent (shapeOf book) (sentTable book) (receivedTable book)
+
 -- of a row of process j, the entries for every other process in rising order; the row begins the list
 unfoldable pub others : ℕ → ℕ → List ℕ → List ℕ
 others n j row = take j row ++ drop (suc j) (take n row)
@@ -66,6 +71,10 @@ processesOf n j (count ∷ counts) sent received =
     ∷ processesOf n (suc j) counts (drop (count * rowWidth) sent) (drop (count * rowWidth) received)
 
 -- the book that tables hold
-abbrev pub bookOf : Shape → List ℕ → List ℕ → Book
-bookOf shape sent received =
-    record { n = shape .n; processes = processesOf (shape .n) 0 (take (shape .n) (shape .counts)) sent received }
+abbrev pub bookOf : Tables → Book
+bookOf tables =
+    let shape : Shape = tables .shape in
+    record {
+      n = shape .n;
+      processes = processesOf (shape .n) 0 (take (shape .n) (shape .counts)) (tables .sent) (tables .received);
+    }

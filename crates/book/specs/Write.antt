@@ -4,8 +4,8 @@ use Prim.Native.Nat.{ℕ, zero, suc}
 use lib.ListN.{length}
 use lib.Seq.{sets}
 use lib.Dec.{leb}
+use Rattle.book.specs.Lent.{Tables}
 use Rattle.varint.specs.Sequence.{encodeAll}
-use Rattle.book.specs.declared.Shape.{Shape}
 use Rattle.book.specs.declared.WriteAnswer.{WriteAnswer}
 use Rattle.book.specs.declared.WriteAnswer.the-variants.{Length, Refused}
 use Rattle.book.specs.Layout.{Book, bookNumbers}
@@ -18,24 +18,21 @@ abbrev pub bookBytes : Book → List ℕ
 bookBytes book = encodeAll (bookNumbers book)
 
 -- the bytes of the book that tables hold
-abbrev pub bytesOf : Shape → List ℕ → List ℕ → List ℕ
-bytesOf shape sent received = bookBytes (bookOf shape sent received)
+abbrev pub bytesOf : Tables → List ℕ
+bytesOf tables = bookBytes (bookOf tables)
 
 -- the questions of the tables, then 17: do the bytes to be written fit the buffer?
-unfoldable pub writeQuestion : Shape → List ℕ → List ℕ → List ℕ → ℕ
-writeQuestion shape sent received out =
-    tablesQuestion shape sent received then λ _. ask 17 (leb (length (bytesOf shape sent received)) (length out))
+unfoldable pub writeQuestion : Tables → List ℕ → ℕ
+writeQuestion tables out = tablesQuestion tables then λ _. ask 17 (leb (length (bytesOf tables)) (length out))
 
 -- the length written, or the question that refuses
 abbrev pub lengthOr : ℕ → ℕ → WriteAnswer
 lengthOr zero long = Length long
 lengthOr (suc question) long = Refused (suc question)
 
-unfoldable pub answerToWrite : Shape → List ℕ → List ℕ → List ℕ → WriteAnswer
-answerToWrite shape sent received out =
-    lengthOr (writeQuestion shape sent received out) (length (bytesOf shape sent received))
+unfoldable pub answerToWrite : Tables → List ℕ → WriteAnswer
+answerToWrite tables out = lengthOr (writeQuestion tables out) (length (bytesOf tables))
 
 -- the buffer afterwards: the bytes at its start, those after them untouched
-unfoldable pub bytesWritten : Shape → List ℕ → List ℕ → List ℕ → List ℕ
-bytesWritten shape sent received out =
-    unlessRefused (writeQuestion shape sent received out) out (sets out 0 (bytesOf shape sent received))
+unfoldable pub bytesWritten : Tables → List ℕ → List ℕ
+bytesWritten tables out = unlessRefused (writeQuestion tables out) out (sets out 0 (bytesOf tables))

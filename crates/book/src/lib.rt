@@ -9,7 +9,8 @@ ghost use Rattle.book.specs.Names.{isNamed, isPurpose};
 ghost use Rattle.book.specs.Tables.{partnerColumn};
 ghost use Rattle.book.specs.View.{sum, firstRows, counterFrom};
 ghost use Rattle.book.specs.Before.{entryBefore};
-ghost use Rattle.book.specs.Questions.{zeroIfOldest, counterQuestion};
+ghost use Rattle.book.specs.Questions.{zeroIfAsked, counterQuestion};
+ghost use Rattle.book.specs.Along.{sentZeros, receivedZeros};
 
 // The bounds of document 01.
 pub const MOST_PROCESSES: usize = 16;
@@ -86,21 +87,35 @@ pub fn is_named(n: usize, process: usize) -> bool
     1 <= process && process <= n
 }
 
-// Question 7 asks only the counters of an oldest checkpoint.
-fn zero_if_oldest(oldest: bool, v: u64) -> bool
-    ensures { λ r. ⌜ r ≡ zeroIfOldest oldest v ⌝ }
+// Must the sent counters of a checkpoint be zero (question 7)? Those of an oldest one must.
+pub fn sent_zeros(oldest: bool) -> bool
+    ensures { λ r. ⌜ r ≡ sentZeros oldest ⌝ }
 {
-    if oldest { v == 0 } else { true }
+    oldest
+}
+
+// Must its received counters be? The same.
+pub fn received_zeros(oldest: bool) -> bool
+    ensures { λ r. ⌜ r ≡ receivedZeros oldest ⌝ }
+{
+    oldest
+}
+
+// Question 7 asks only counters that must be zero.
+fn zero_if_asked(zeros: bool, v: u64) -> bool
+    ensures { λ r. ⌜ r ≡ zeroIfAsked zeros v ⌝ }
+{
+    if zeros { v == 0 } else { true }
 }
 
 // Questions 6 to 8 of one counter: the first that fails, 0 for none.
-pub fn counter_question(mark: u64, oldest: bool, before: u64, v: u64) -> u32
-    ensures { λ r. ⌜ r ≡ counterQuestion mark oldest before v ⌝ }
+pub fn counter_question(mark: u64, zeros: bool, before: u64, v: u64) -> u32
+    ensures { λ r. ⌜ r ≡ counterQuestion mark zeros before v ⌝ }
 {
     if mark <= v {
         return 6;
     }
-    let is_zero = zero_if_oldest(oldest, v);
+    let is_zero = zero_if_asked(zeros, v);
     if !is_zero {
         return 7;
     }

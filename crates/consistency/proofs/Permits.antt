@@ -10,16 +10,14 @@ use Rattle.line_theory.proofs.Tests.{permitted-in, permitted-out, refused-by}
 use Rattle.consistency.specs.declared.Permission.{Permission}
 use Rattle.consistency.specs.declared.Permission.the-variants.{Permitted, Offends}
 use Rattle.consistency.specs.Known.{isPermitted, Offender, CheckpointTested}
-use Rattle.lists.proofs.Fills.{below-more}
 
 -- a number from 1 on is one more than the same from 0 on
 pub from-one : (p : ℕ) → p + 1 - 1 ≡ p
 from-one p = omega arith
 
--- one partner more, numbered from 1 where its counter is read
-pub known-more : (row known : ℕ → ℕ) (p : ℕ) → ((q : ℕ) → q < p → row q ≤ known q) → row (p + 1 - 1) ≤ known p
-    → (q : ℕ) → q < p + 1 → row q ≤ known q
-known-more row known p before here = below-more (λ q. row q ≤ known q) p before (rw from-one at here)
+-- a partner, numbered from 1 where its counter is read
+pub known-here : (row known : ℕ → ℕ) (p : ℕ) → row (p + 1 - 1) ≤ known p → row p ≤ known p
+known-here row known p here = rw from-one at here
 
 pub offends : (n : ℕ) (row known : ℕ → ℕ) (p : ℕ) → p < n → known p < row (p + 1 - 1) → Offender n row known (p + 1)
 offends n row known p i h = record { partner = (omega arith, omega arith); more = rw (from-one p) (rw from-one at h) }

@@ -10,7 +10,7 @@ use Rattle.book.specs.declared.Shape.{Shape}
 use Rattle.book.specs.declared.Checkpoint.{Checkpoint}
 use Rattle.book.specs.View.{count}
 use Rattle.lists.proofs.Tests.{and-both}
-use Rattle.lists.proofs.Over.{all-in, all-out, all-not}
+use Rattle.lists.proofs.Over.{all-in}
 use Rattle.consistency.specs.Set.{chosen, isThere, allThere}
 
 pub there-absent : (present : Bool) (checkpoints r : ℕ) → present ≡ false → eqb r 0 ≡ isThere present checkpoints r
@@ -22,17 +22,7 @@ there-none present checkpoints r h k = rw (h, lt-leb 1 r k)
 pub there-some : (present : Bool) (checkpoints r : ℕ) → present ≡ true → 1 ≤ r → leb r checkpoints ≡ isThere present checkpoints r
 there-some present checkpoints r h k = rw (h, le-leb 1 r k)
 
--- all of a set
-pub there-all : (shape : Shape) (set : List Checkpoint)
-    → ((j : ℕ) → j < 16 → isThere (ltb j (shape .n)) (count shape j) (chosen set j) ≡ true) → allThere shape set ≡ true
-unfolding allThere
-there-all shape set h = all-out 16 (λ j. isThere (ltb j (shape .n)) (count shape j) (chosen set j)) h
-
-pub there-not : (shape : Shape) (set : List Checkpoint) (j : ℕ) → j < 16
-    → isThere (ltb j (shape .n)) (count shape j) (chosen set j) ≡ false → allThere shape set ≡ false
-unfolding allThere
-there-not shape set j i h = all-not 16 (λ k. isThere (ltb k (shape .n)) (count shape k) (chosen set k)) j i h
-
+-- each of a set
 there-at : (shape : Shape) (set : List Checkpoint) → allThere shape set ≡ true → (j : ℕ) → j < 16
     → isThere (ltb j (shape .n)) (count shape j) (chosen set j) ≡ true
 unfolding allThere

@@ -1,5 +1,5 @@
--- What the functions below the calls are given, and what they promise one another: the one for other crates
--- (`newest_near`), and the private ones.
+-- What the functions below the calls are given beside `AcceptedRows`, and what they promise one another: the one for other
+-- crates (`newest_near`), and the private ones.
 use mathlib.Core.Path.{_≡_}
 use mathlib.Core.Bool.{true}
 use mathlib.Core.List.{List}
@@ -9,39 +9,27 @@ use Rattle.book.specs.declared.Shape.{Shape}
 use Rattle.book.specs.declared.TableRows.{TableRows}
 use Rattle.book.specs.declared.Checkpoint.{Checkpoint}
 use Rattle.book.specs.declared.Count.{Count}
-use Rattle.book.specs.Bounds.{mark, mostProcesses, entries}
+use Rattle.book.specs.Bounds.{mostProcesses, entries}
 use Rattle.book.specs.View.{count, S, R}
 use Rattle.book.specs.Fits.{Placed}
-use Rattle.line_theory.specs.Sets.{View, IsBook, IsSet, consistent}
+use Rattle.line_theory.specs.Sets.{View, consistent}
 use Rattle.line_theory.specs.Search.{sentTo}
-use Rattle.line_theory.specs.OfTables.{viewOf}
 use Rattle.consistency.specs.declared.SetAnswer.{SetAnswer}
 use Rattle.consistency.specs.declared.SetAnswer.the-variants.{Consistent, AtFault, Refused}
 use Rattle.consistency.specs.declared.Permission.{Permission}
 use Rattle.consistency.specs.Set.{chosen, IsAtFault}
 use Rattle.consistency.specs.Known.{counters, CheckpointTested}
 
--- the rows of a book lie in a whole table
+-- the rows of a book lie in a whole table: of accepted tables, what one who is lent only one of them can ask
 pub record Whole (rows : TableRows) (table : List ℕ) : Type 0 where
   pub placed : Placed rows
   pub most : rows .shape .n ≤ mostProcesses
   pub long : length table ≡ entries
 
--- a process of the book, numbered from 1
-abbrev pub IsProcess : TableRows → ℕ → Type 0
-IsProcess rows j = (1 ≤ j) × (j ≤ rows .shape .n)
-
--- the received counters of process j, numbered from 1, rise from each checkpoint to the next (question 8)
+-- and of the received one alone: the counters of process j, numbered from 1, rise from each checkpoint to the next (question 8)
 abbrev pub Rises : Shape → List ℕ → ℕ → Type 0
 Rises shape received j =
     (r p : ℕ) → p < shape .n → 1 ≤ r → r < count shape (j - 1) → R shape received (j - 1) r p ≤ R shape received (j - 1) (suc r) p
-
--- whole tables that hold a book, and a set of it
-pub record SetGiven (rows : TableRows) (sent received : List ℕ) (set : List Checkpoint) : Type 0 where
-  pub in-sent : Whole rows sent
-  pub in-received : Whole rows received
-  pub book : IsBook mark (viewOf (rows .shape) sent received)
-  pub is-set : IsSet (viewOf (rows .shape) sent received) (chosen set)
 
 -- the checkpoints of a set, of each process that there is, are in the tables
 abbrev pub AllNamed : Shape → List Checkpoint → Type 0

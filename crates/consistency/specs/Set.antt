@@ -5,6 +5,7 @@ use mathlib.Core.List.{List}
 use Prim.Native.Nat.{ℕ, _-_, _≤_}
 use lib.ListN.{getD}
 use lib.Dec.{ltb, leb, eqb}
+use Rattle.book.specs.Lent.{Tables}
 use Rattle.book.specs.declared.Shape.{Shape}
 use Rattle.book.specs.declared.Checkpoint.{Checkpoint}
 use Rattle.book.specs.Bounds.{mostProcesses}
@@ -31,8 +32,8 @@ unfoldable pub allThere : Shape → List Checkpoint → Bool
 allThere shape set = allTo mostProcesses (λ j. isThere (ltb j (shape .n)) (view.count shape j) (chosen set j))
 
 -- the questions of the tables, then 12
-unfoldable pub testQuestion : Shape → List ℕ → List ℕ → List Checkpoint → ℕ
-testQuestion shape sent received set = tablesQuestion shape sent received then λ _. ask 12 (allThere shape set)
+unfoldable pub testQuestion : Tables → List Checkpoint → ℕ
+testQuestion tables set = tablesQuestion tables then λ _. ask 12 (allThere (tables .shape) set)
 
 -- a pair (j, p) of a book, numbered from 1 as a caller names it, is at fault in a set
 pub record IsAtFault (v : View) (c : ℕ → ℕ) (j p : ℕ) : Type 0 where
@@ -41,10 +42,7 @@ pub record IsAtFault (v : View) (c : ℕ → ℕ) (j p : ℕ) : Type 0 where
   pub fault : atFault v c (j - 1) (p - 1) ≡ true
 
 -- What holds of each answer to a test. Which pair at fault is shown is left free, where there are several.
-abbrev pub Tested : Shape → List ℕ → List ℕ → List Checkpoint → SetAnswer → Type 0
-Tested shape sent received set Consistent =
-    (testQuestion shape sent received set ≡ 0) × (consistent (viewOf shape sent received) (chosen set) ≡ true)
-Tested shape sent received set (AtFault j p) =
-    (testQuestion shape sent received set ≡ 0) × IsAtFault (viewOf shape sent received) (chosen set) (j .0) (p .0)
-Tested shape sent received set (Refused question) =
-    (testQuestion shape sent received set ≡ question) × (question ≡ 0 → ⊥)
+abbrev pub Tested : Tables → List Checkpoint → SetAnswer → Type 0
+Tested tables set Consistent = (testQuestion tables set ≡ 0) × (consistent (viewOf tables) (chosen set) ≡ true)
+Tested tables set (AtFault j p) = (testQuestion tables set ≡ 0) × IsAtFault (viewOf tables) (chosen set) (j .0) (p .0)
+Tested tables set (Refused question) = (testQuestion tables set ≡ question) × (question ≡ 0 → ⊥)

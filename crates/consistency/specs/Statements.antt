@@ -3,7 +3,7 @@ use mathlib.Core.Path.{_≡_}
 use mathlib.Core.Bool.{Bool, true, false}
 use mathlib.Core.List.{List}
 use Prim.Native.Nat.{ℕ}
-use Rattle.book.specs.declared.Shape.{Shape}
+use Rattle.book.specs.Lent.{Tables}
 use Rattle.book.specs.declared.Checkpoint.{Checkpoint}
 use Rattle.book.specs.InTurn.{unlessRefused}
 use Rattle.line_theory.specs.Sets.{consistent}
@@ -21,6 +21,6 @@ caseOf (Refused question) = (question, false)
 -- Only the pair is left free: the first question that fails, or whether the set is consistent, fixes the rest.
 abbrev pub OnlyPairIsFree : Type 0
 OnlyPairIsFree =
-    (shape : Shape) (sent received : List ℕ) (set : List Checkpoint) (answer : SetAnswer) → Tested shape sent received set answer
-    → let question : ℕ = testQuestion shape sent received set in
-    caseOf answer ≡ (question, unlessRefused question false (consistent (viewOf shape sent received) (chosen set)))
+    (tables : Tables) (set : List Checkpoint) (answer : SetAnswer) → Tested tables set answer
+    → let question : ℕ = testQuestion tables set in
+    caseOf answer ≡ (question, unlessRefused question false (consistent (viewOf tables) (chosen set)))

@@ -8,12 +8,14 @@ use book::Shape;
 use book::TableRows;
 ghost use mathlib.Core.Path.{_≡_};
 ghost use Prim.Native.Nat.{_-_, _≤_};
+ghost use Rattle.book.specs.Lent.{lent};
 ghost use Rattle.book.specs.View.{count, R};
+ghost use Rattle.book.specs.Accepted.{AcceptedRows, IsProcess};
 ghost use Rattle.line_theory.specs.Search.{newest};
 ghost use Rattle.line_theory.specs.OfTables.{viewOf};
 ghost use Rattle.consistency.specs.Set.{chosen, isThere, allThere, Tested};
 ghost use Rattle.consistency.specs.Known.{counters, isPermitted, CheckpointTested};
-ghost use Rattle.consistency.specs.Given.{Whole, IsProcess, Rises, SetGiven, AllNamed, AreSentTo, InSet, Paired};
+ghost use Rattle.consistency.specs.Given.{Whole, Rises, AllNamed, AreSentTo, InSet, Paired};
 
 // One checkpoint against known sent counters: none of its received counters is higher, or that of this partner is.
 pub enum Permission {
@@ -181,8 +183,9 @@ fn test_in_set(
     set: [Checkpoint; 16],
     j: Process,
 ) -> Permission
-    requires { ⌜ SetGiven rows (now sent) (now received) set × IsProcess rows (j .0) ⌝ }
-    ensures { λ a. ⌜ InSet (viewOf (rows .shape) (now (sent .entry)) (now (received .entry))) (chosen set) (j .0 - 1) a ⌝ }
+    requires { ⌜ AcceptedRows rows (now sent) (now received) × IsProcess rows (j .0) ⌝ }
+    requires { ⌜ AllNamed (rows .shape) set ⌝ }
+    ensures { λ a. ⌜ InSet (viewOf (lent (rows .shape) (now (sent .entry)) (now (received .entry)))) (chosen set) (j .0 - 1) a ⌝ }
 {
     let known = sent_to(rows, sent, set, j);
     let i = j.0 - 1;
@@ -227,8 +230,8 @@ fn test_pairs(
     received: &[Counter],
     set: [Checkpoint; 16],
 ) -> SetAnswer
-    requires { ⌜ SetGiven rows (now sent) (now received) set ⌝ }
-    ensures { λ a. ⌜ Paired (viewOf (rows .shape) (now (sent .entry)) (now (received .entry))) (chosen set) a ⌝ }
+    requires { ⌜ AcceptedRows rows (now sent) (now received) × AllNamed (rows .shape) set ⌝ }
+    ensures { λ a. ⌜ Paired (viewOf (lent (rows .shape) (now (sent .entry)) (now (received .entry)))) (chosen set) a ⌝ }
 {
     let shape = rows.shape;
     let n = shape.n;
@@ -250,7 +253,7 @@ pub fn test_set(
     received: &[Counter],
     set: [Checkpoint; 16],
 ) -> SetAnswer
-    ensures { λ a. ⌜ Tested shape (now (sent .entry)) (now (received .entry)) set a ⌝ }
+    ensures { λ a. ⌜ Tested (lent shape (now (sent .entry)) (now (received .entry))) set a ⌝ }
 {
     let question = tables::question(shape, sent, received);
     if question != 0 {

@@ -22,7 +22,7 @@ use Rattle.session_theory.proofs.Search.{Search, IsSearch, size, lead, isPart, 
 use Rattle.session_theory.proofs.Invariant.{Laid, Phase, quiet, reported, asked, weight, one}
 use Rattle.session_theory.proofs.Facts.{worker, part-within, book-is}
 use Rattle.session_theory.proofs.Search as theory
-use Rattle.demand3.specs.Statement.{Beginning, shapeLeft, sentLeft, receivedLeft, viewLeft, IsAccepted, Searches, atStart, after, nextQuestion, messageWaits, someoneGoesOn, mostDelivered, HoldsAfter, Demand3}
+use Rattle.demand3.specs.Statement.{Beginning, shapeLeft, viewLeft, IsAccepted, Searches, atStart, after, nextQuestion, messageWaits, someoneGoesOn, mostDelivered, HoldsAfter, Demand3, tablesLeft}
 use Rattle.demand3.specs.Beside.{AtEnd, acceptedIn, GoesOn}
 use Rattle.demand3.proofs.Kept.{Kept, answers, room-answers}
 use Rattle.demand3.proofs.Lists.{Listed, listed}
@@ -121,7 +121,7 @@ module _ (b : Beginning) (a : IsAccepted b) (h : Searches b) (turns : List Proce
   long : length (o .strands) ≡ length (b .strands)
   long = all .long ∙ search-long b a h
 
-  counted : o .session .delivered ≡ acceptedTurns (shapeLeft b) (sentLeft b) (receivedLeft b) (atStart b) turns
+  counted : o .session .delivered ≡ acceptedTurns (tablesLeft b) (atStart b) turns
   counted = omega (arith, all .delivered, start-delivered b a)
 
   with-room :
@@ -165,7 +165,7 @@ module _ (b : Beginning) (a : IsAccepted b) (h : Searches b) (turns : List Proce
             inr (p, with-room p (omega arith) waits room)
 
     ends :
-        mostDelivered (viewLeft b) ≤ acceptedTurns (shapeLeft b) (sentLeft b) (receivedLeft b) (atStart b) turns → (j : ℕ) → j < shapeLeft b .n
+        mostDelivered (viewLeft b) ≤ acceptedTurns (tablesLeft b) (atStart b) turns → (j : ℕ) → j < shapeLeft b .n
         → (hasEnded (o .session) j ≡ true) × (standsOn (o .session) j ≡ line (viewLeft b) j)
     ends many j small =
         let ended : hasEnded (o .session) j ≡ true =

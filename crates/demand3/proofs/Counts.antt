@@ -1,6 +1,6 @@
 -- Rounds: "a round is one wait of at least one report, counted as the wait begins."
 use mathlib.Core.Path.{_≡_, refl, sym, ap, _∙_}
-use mathlib.Core.Bool.{Bool, true, false, not, _&&_, _||_, true≢false}
+use mathlib.Core.Bool.{Bool, true, false, not, _&&_, _||_, Bool·not-not, true≢false}
 use mathlib.Core.List.{List}
 use Prim.Native.Nat.{ℕ, suc, _+_, _<_}
 use native.Mathlib.Omega.{arith}
@@ -9,7 +9,7 @@ use lib.ListN.{length}
 use lib.Dec.{eqb}
 use Rattle.book.specs.Bounds.{mostProcesses}
 use Rattle.lists.specs.Over.{allTo, tab}
-use Rattle.lists.proofs.Over.{getD-tab}
+use Rattle.lists.proofs.Over.{getD-tab, all-ext}
 use Rattle.lists.specs.Pick.{pick}
 use Rattle.matrix.specs.Matrix.{row}
 use Rattle.matrix.specs.Entries.{allLower}
@@ -23,7 +23,6 @@ use Rattle.initiator.specs.declared.Initiator.{Initiator}
 use Rattle.initiator.specs.Begin.{wait}
 use Rattle.initiator.specs.Step.{senderOf, awaits, takeReport, stepBack, polled, poll, terminate, compare, step}
 use Rattle.initiator.specs.Calls.{readBy, messageQuestion}
-use Rattle.machine_laws.proofs.Newest.{all-ext}
 use Rattle.participant.specs.Calls as participant
 use Rattle.machine_laws.proofs.Calls.{three-yes}
 use Rattle.initiator_laws.specs.Accepts.{sendsPoll}
@@ -37,10 +36,6 @@ use Rattle.session.specs.Held.{senderIn, endsSearch, heldUp, heldDown, held, is
 use Rattle.session.specs.Steps.{deliverDown, deliverUp, deliver}
 use Rattle.session_fit.proofs.Read.{sent-by}
 use Rattle.session_theory.proofs.Search.{Search, size}
-
-not-not : (a : Bool) → not (not a) ≡ a
-not-not true = refl
-not-not false = refl
 
 not-and : (a b : Bool) → not (a && not b) ≡ (not a || b)
 not-and true true = refl
@@ -60,7 +55,7 @@ module _ (state : Initiator) (m : Message) where
       let left : ℕ → Bool = λ q. flag (state .awaited) q && not (eqb q (senderOf m)) in
       all-ext 16 (λ q. not (flag (state .awaited) q) || eqb q (senderOf m)) (λ q. not (flag (tab 16 left) q))
       (λ q h. sym (ap not (getD-tab 16 left q false h) ∙ not-and (flag (state .awaited) q) (eqb q (senderOf m))))
-      ∙ sym (not-not (allTo 16 (λ q. not (flag (tab 16 left) q))))
+      ∙ sym (Bool·not-not (allTo 16 (λ q. not (flag (tab 16 left) q))))
 
   module _ (own : Own) where
     -- when all reports are in, those are awaited next who are polled
@@ -131,7 +126,7 @@ module _ (n : ℕ) (s : Session) (k : ℕ) (b : List ℕ) (report : held n s k b
 module _ (g : Search) (s : Session) (k : ℕ) (b : List ℕ) where
   -- what the message on k's strand does, held as this
   abbrev pub does : Waiting → Turned
-  does w = deliver (g .shape) (g .sent) (g .received) s k b w
+  does w = deliver (g .tables) s k b w
 
   -- with this delivery a wait begins
   abbrev begins : Waiting → Bool
@@ -145,7 +140,7 @@ module _ (g : Search) (s : Session) (k : ℕ) (b : List ℕ) where
   rounds-does Ending e = omega arith
   rounds-does Stray e = omega arith
   rounds-does Report e =
-      let own : Own = ownOf (g .shape) (g .sent) (g .received) (initiatorOf s) in
+      let own : Own = ownOf (g .tables) (initiatorOf s) in
       let m : Message = readBy (size g) (s .machine) b in
       rounds own (s .machine) m
       ∙ ap (λ (v : Bool). s .machine .rounds + pick v 1 0)

@@ -7,6 +7,7 @@ use Prim.Native.Nat.{ℕ, _≤_, _<_}
 use borrow.Author.Tests.{not-true, not-false}
 use lib.ListN.{length}
 use Rattle.lists.specs.Over.{allTo}
+use Rattle.lists.proofs.Tests.{both-ways}
 use Rattle.lists.proofs.Over.{all-in, all-out, all-not, all-witness}
 use Rattle.session.specs.declared.Session.{Session}
 use Rattle.session.specs.Workers.{hasEnded, waitsOn}
@@ -29,11 +30,6 @@ module _ (s : Session) where
 
   pub waits-none : ((k : ℕ) → k < 16 → waitsOn s k ≡ false) → messageWaits s ≡ false
   waits-none none = ap not (all-out 16 (λ q. not (waitsOn s q)) (λ q small. ap not (none q small)))
-
-both-ways : (a b : Bool) → (a ≡ true → b ≡ true) → (b ≡ true → a ≡ true) → a ≡ b
-both-ways true b there back = sym (there refl)
-both-ways false true there back = back refl
-both-ways false false there back = refl
 
 module _
     (g : Search)

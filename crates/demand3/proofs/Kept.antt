@@ -172,7 +172,7 @@ module _ (g : Search) (is : IsSearch g) (Inv : Session → (ℕ → List ℕ) �
       -- "The messages delivered are the accepted turns of the list, and the session's count equals their number."
       pub counted :
           nextOf g o p .session .delivered
-          ≡ s .delivered + pick (turnAccepted (g .shape) (g .sent) (g .received) o p) 1 0
+          ≡ s .delivered + pick (turnAccepted (g .tables) o p) 1 0
       counted =
           ⊎-elim
           (λ (r : Refused g o p).

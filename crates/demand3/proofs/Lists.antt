@@ -1,12 +1,13 @@
 -- A list of turns: what each of them keeps and counts, all of them keep and count.
 use mathlib.Core.Path.{_≡_, refl, sym, ap, _∙_}
-use mathlib.Core.Bool.{Bool, true, _&&_}
+use mathlib.Core.Bool.{Bool, _&&_}
 use mathlib.Core.List.{List, [], _∷_}
 use mathlib.Core.Logic.{⊎-elim}
 use Prim.Native.Nat.{ℕ, _+_, _-_}
 use native.Mathlib.Omega.{arith}
 use borrow.Author.Tests.{eq-eqb, ne-eqb}
 use lib.ListN.{length}
+use Rattle.lists.proofs.Tests.{and-rest}
 use Rattle.book.specs.declared.Process.{Process}
 use Rattle.lists.specs.Pick.{pick}
 use Rattle.machine.specs.Flags.{someone}
@@ -22,13 +23,13 @@ use Rattle.demand3.proofs.Kept.{Kept, Holds, Moved, turn, holds-next, l
 use Rattle.demand3.proofs.Counts.{lastAwaited, rounds-does}
 
 abbrev pub afterOf : Search → Ongoing → List Process → Ongoing
-afterOf g o turns = afterTurns (g .shape) (g .sent) (g .received) o turns
+afterOf g o turns = afterTurns (g .tables) o turns
 
 abbrev pub acceptedOf : Search → Ongoing → List Process → ℕ
-acceptedOf g o turns = acceptedTurns (g .shape) (g .sent) (g .received) o turns
+acceptedOf g o turns = acceptedTurns (g .tables) o turns
 
 abbrev pub begunOf : Search → Ongoing → List Process → ℕ
-begunOf g o turns = waitsBegun (g .shape) (g .sent) (g .received) o turns
+begunOf g o turns = waitsBegun (g .tables) o turns
 
 pub record Listed (g : Search) (Inv : Session → (ℕ → List ℕ) → Type 0) (o : Ongoing) (turns : List Process) : Type 0 where
   pub holds : Holds g Inv (afterOf g o turns)
@@ -40,10 +41,6 @@ posted-machine : (t : Turned) → withPosted t .machine ≡ t .session .machine
 unfolding withPosted
 posted-machine t = refl
 
--- where it is accepted, a wait begins by what the message does
-begins-if : (accepted begins : Bool) → accepted ≡ true → (accepted && begins) ≡ begins
-begins-if accepted begins h = rw h
-
 module _ (g : Search) (is : IsSearch g) (Inv : Session → (ℕ → List ℕ) → Type 0) (kept : Kept g Inv) where
   module _ (o : Ongoing) (holds : Holds g Inv o) (p : Process) where
     abbrev s : Session
@@ -54,7 +51,7 @@ module _ (g : Search) (is : IsSearch g) (Inv : Session → (ℕ → List ℕ) �
 
     rounds-next :
         nextOf g o p .session .machine .rounds
-        ≡ s .machine .rounds + pick (waitBegins (g .shape) (g .sent) (g .received) o p) 1 0
+        ≡ s .machine .rounds + pick (waitBegins (g .tables) o p) 1 0
     rounds-next =
         ⊎-elim
         (λ (r : Refused g o p). rw (r .session, ne-eqb (questionOf g o p) 0 (r .question)) (omega arith))
@@ -63,16 +60,16 @@ module _ (g : Search) (is : IsSearch g) (Inv : Session → (ℕ → List ℕ) �
       where
         moved : Moved g Inv o p (holds .box)
             → nextOf g o p .session .machine .rounds
-            ≡ s .machine .rounds + pick (waitBegins (g .shape) (g .sent) (g .received) o p) 1 0
+            ≡ s .machine .rounds + pick (waitBegins (g .tables) o p) 1 0
         moved m =
             let b : List ℕ = holds .box k in
             let reports : List ℕ → Bool = λ bytes. isReport (held (size g) s k bytes) in
             let last : Bool = lastAwaited (s .machine) k in
             let machine : nextOf g o p .session .machine ≡ goes g s k b .session .machine =
             ap (λ (u : Session). u .machine) (m .accepted .session) ∙ posted-machine (goes g s k b) in
-            let begins : waitBegins (g .shape) (g .sent) (g .received) o p
+            let begins : waitBegins (g .tables) o p
             ≡ ((reports b && last) && someone (goes g s k b .session .machine .awaited)) =
-            begins-if (turnAccepted (g .shape) (g .sent) (g .received) o p)
+            and-rest (turnAccepted (g .tables) o p)
             ((reports (waitingBytes (size g) s (o .strands) k) && last) && someone (nextOf g o p .session .machine .awaited))
             (eq-eqb (questionOf g o p) 0 (m .accepted .question))
             ∙ ap (λ (bytes : List ℕ). (reports bytes && last) && someone (nextOf g o p .session .machine .awaited))

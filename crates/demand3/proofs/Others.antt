@@ -51,7 +51,7 @@ module _ (g : Search) (s : Session) (k : ℕ) (b : List ℕ) (q : ℕ) (small : 
   unfolding deliverDown
   down-other other =
       strand-other k (initiatorOf s)
-      (participant.step (ownOf (g .shape) (g .sent) (g .received) k) (participantAt s k)
+      (participant.step (ownOf (g .tables) k) (participantAt s k)
       (participant-calls.readBy (size g) (participantAt s k) b) .outgoing)
       q small other
 
@@ -60,7 +60,7 @@ module _ (g : Search) (s : Session) (k : ℕ) (b : List ℕ) (q : ℕ) (small : 
       → goesTo (goesDown g s k b .outgoing) q ≡ false
   unfolding deliverDown
   end-silent lead ends =
-      let own = ownOf (g .shape) (g .sent) (g .received) k in
+      let own = ownOf (g .tables) k in
       let m = participant-calls.readBy (size g) (participantAt s k) b in
       strand-silent k (initiatorOf s) (participant.step own (participantAt s k) m .outgoing)
       (end-is-silent own (participantAt s k) m ends (initiatorOf s) lead) q small
@@ -106,8 +106,7 @@ module _ (g : Search) (is : IsSearch g) (Inv : Session → (ℕ → List ℕ) �
     box = holds .box
 
     others-left :
-        isPart g k ≡ true → (DeliversAt g o p k → ⊥)
-        → (questionOf g o p ≡ 0 → bringsLast (g .shape) (g .sent) (g .received) o p ≡ false)
+        isPart g k ≡ true → (DeliversAt g o p k → ⊥) → (questionOf g o p ≡ 0 → bringsLast (g .tables) o p ≡ false)
         → waitingBytes (size g) (nextOf g o p .session) (nextOf g o p .strands) k
         ≡ waitingBytes (size g) (o .session) (o .strands) k
     others-left there stays none =

@@ -68,9 +68,9 @@ module _ (g : Search) (is : IsSearch g) where
     pub begins-room : haveRoom (size g) (lead g) (begins g .outgoing) strands ≡ true
     begins-room = room-suffices g (begins g .outgoing) strands is (begins-in .0) begins-short room
 
-    pub starts-with-room : startQuestion (g .shape) (g .sent) (g .received) (g .initiator) (g .purpose) strands ≡ 0
+    pub starts-with-room : startQuestion (g .tables) (g .initiator) (g .purpose) strands ≡ 0
     unfolding startQuestion
     starts-with-room =
-        all-yes (tablesQuestion (g .shape) (g .sent) (g .received)) (isNamed (size g) (g .initiator .0)) (isPurpose (g .purpose))
+        all-yes (tablesQuestion (g .tables)) (isNamed (size g) (g .initiator .0)) (isPurpose (g .purpose))
         (haveRoom (size g) (lead g) (begins g .outgoing) strands)
-        (is .accepted) (is .named) (is .purposed) begins-room
+        (is .accepted .passed) (is .named) (is .purposed) begins-room

@@ -8,26 +8,24 @@ use Prim.Native.Nat.{ℕ, zero, suc, _+_, _≤_, _<_}
 use native.Mathlib.Omega.{arith}
 use borrow.Author.Tests.{eq-eqb}
 use lib.ListN.{length}
-use Rattle.book.specs.declared.Shape.{Shape}
+use Rattle.book.specs.Lent.{Tables}
 use Rattle.book.specs.declared.Process.{Process}
 use Rattle.lists.specs.Pick.{pick}
 use Rattle.strands.specs.Strands.{roomForAll}
 use Rattle.session.specs.Workers.{hasEnded}
 use Rattle.session.specs.Turns.{Ongoing, afterTurn, afterTurns, turnAccepted, acceptedTurns}
-use Rattle.demand3.specs.Statement.{Beginning, shapeLeft, sentLeft, receivedLeft, viewLeft, IsAccepted, Searches, atStart, after, nextQuestion, mostDelivered}
+use Rattle.demand3.specs.Statement.{Beginning, shapeLeft, viewLeft, IsAccepted, Searches, atStart, after, nextQuestion, mostDelivered, tablesLeft}
 use Rattle.demand3.specs.Beside.{AtEnd, EndIsReached}
 use Rattle.demand3.proofs.Claims.{demand-3, goes-on, comes-to-end}
 
 -- one turn more is counted where it is accepted
 accepted-more :
-    (shape : Shape) (sent received : List ℕ) (turns : List Process) (o : Ongoing) (p : Process)
-    → acceptedTurns shape sent received o (turns ++ (p ∷ []))
-    ≡ acceptedTurns shape sent received o turns
-    + pick (turnAccepted shape sent received (afterTurns shape sent received o turns) p) 1 0
+    (t : Tables) (turns : List Process) (o : Ongoing) (p : Process) → acceptedTurns t o (turns ++ (p ∷ []))
+    ≡ acceptedTurns t o turns
+    + pick (turnAccepted t (afterTurns t o turns) p) 1 0
 unfolding acceptedTurns afterTurns
-accepted-more shape sent received [] o p = omega arith
-accepted-more shape sent received (q ∷ turns) o p =
-    omega (arith, accepted-more shape sent received turns (afterTurn shape sent received o q) p)
+accepted-more t [] o p = omega arith
+accepted-more t (q ∷ turns) o p = omega (arith, accepted-more t turns (afterTurn t o q) p)
 
 module _
     (b : Beginning)
@@ -36,7 +34,7 @@ module _
     (room : roomForAll (shapeLeft b .n) ≤ length (b .strands))
   where
     abbrev accepted : List Process → ℕ
-    accepted turns = acceptedTurns (shapeLeft b) (sentLeft b) (receivedLeft b) (atStart b) turns
+    accepted turns = acceptedTurns (tablesLeft b) (atStart b) turns
 
     abbrev Reached : List Process → Type 0
     Reached turns =
@@ -62,9 +60,9 @@ module _
       where
         one-more : (p : Process) → nextQuestion b turns p ≡ 0 → accepted (turns ++ (p ∷ [])) ≡ accepted turns + 1
         one-more p e =
-            let counted : _≡_ {A = ℕ} (pick (turnAccepted (shapeLeft b) (sentLeft b) (receivedLeft b) (after b turns) p) 1 0) 1 =
+            let counted : _≡_ {A = ℕ} (pick (turnAccepted (tablesLeft b) (after b turns) p) 1 0) 1 =
             rw (eq-eqb (nextQuestion b turns p) 0 e) in
-            omega (arith, accepted-more (shapeLeft b) (sentLeft b) (receivedLeft b) turns (atStart b) p, counted)
+            omega (arith, accepted-more (tablesLeft b) turns (atStart b) p, counted)
 
         go : (p : Process) → nextQuestion b turns p ≡ 0 → Reached (turns ++ (p ∷ [])) → Reached turns
         go p e r = (

@@ -18,7 +18,7 @@ use Rattle.session_theory.proofs.Search.{Search, IsSearch, size, isPart}
 use Rattle.session_theory.proofs.Invariant.{one, Closing, IsEnding, Restarts}
 use Rattle.session_theory.proofs.Facts.{few, lead-in}
 use Rattle.session_theory.proofs.Moves.{goesDown}
-use Rattle.demand3.specs.Statement.{Beginning, shapeLeft, sentLeft, receivedLeft, IsAccepted, atStart, after, nextQuestion}
+use Rattle.demand3.specs.Statement.{Beginning, IsAccepted, atStart, after, nextQuestion, tablesLeft}
 use Rattle.demand3.specs.Beside.{RestartHolds, RestartEnds}
 use Rattle.demand3.proofs.Turn.{goes}
 use Rattle.demand3.proofs.Kept.{Kept, silent-answers, waits-part}
@@ -57,7 +57,7 @@ module _ (b : Beginning) (a : IsAccepted b) (h : b .purpose ≡ 2) (turns : List
   now : Restarts g s box open′
   now = all .holds .state .1
 
-  counted : s .delivered ≡ acceptedTurns (shapeLeft b) (sentLeft b) (receivedLeft b) (atStart b) turns
+  counted : s .delivered ≡ acceptedTurns (tablesLeft b) (atStart b) turns
   counted = omega (arith, all .delivered, start-delivered b a)
 
   on-oldest : (j : ℕ) → j < size g → hasEnded s j ≡ true → standsOn s j ≡ 1

@@ -43,9 +43,8 @@ module _ (g : Search) (s : Session) (k : ℕ) where
   unfolding deliverUp
   up-delivers b = record { leader = refl; lengths = refl; delivered = refl }
 
-  pub goes-as : (b : List ℕ) (w : Waiting) → held (size g) s k b ≡ w
-      → goes g s k b ≡ deliver (g .shape) (g .sent) (g .received) s k b w
-  goes-as b w e = ap (λ (v : Waiting). deliver (g .shape) (g .sent) (g .received) s k b v) e
+  pub goes-as : (b : List ℕ) (w : Waiting) → held (size g) s k b ≡ w → goes g s k b ≡ deliver (g .tables) s k b w
+  goes-as b w e = ap (λ (v : Waiting). deliver (g .tables) s k b v) e
 
   delivery :
       (Inv : Session → (ℕ → List ℕ) → Type 0) (box : ℕ → List ℕ) (u : Turned) → goes g s k (box k) ≡ u

@@ -37,7 +37,7 @@ use Rattle.session_theory.proofs.Moves.{begins, ToParticipants}
 use Rattle.machine_laws.proofs.Flags.{flagged-none}
 use Rattle.search_start.proofs.Alone.{flag-nobody}
 use Rattle.search_start.proofs.Start.{none-delivered}
-use Rattle.demand3.specs.Statement.{Beginning, shapeLeft, sentLeft, receivedLeft, IsAccepted, Searches, atStart, startWaits}
+use Rattle.demand3.specs.Statement.{Beginning, shapeLeft, IsAccepted, Searches, atStart, startWaits, tablesLeft}
 use Rattle.demand3.specs.Beside.{StartHasRoom}
 use Rattle.strand_laws.proofs.Theorems.{laid-begun}
 use Rattle.search_start.proofs.Theorems.{search-begins, restart-begins}
@@ -46,14 +46,7 @@ use Rattle.demand3.proofs.Searching.{InSearch, InRestart, search-kept, 
 use Rattle.demand3.proofs.Purposes.{InSession, kept-in, begins-in, starts-with-room}
 
 abbrev pub searchOf : Beginning → Search
-searchOf b =
-    record {
-      shape = shapeLeft b;
-      sent = sentLeft b;
-      received = receivedLeft b;
-      initiator = b .initiator;
-      purpose = b .purpose;
-    }
+searchOf b = record { tables = tablesLeft b; initiator = b .initiator; purpose = b .purpose }
 
 -- the four parts of a start's question
 module _ (tables : ℕ) (named purposed room : Bool) where
@@ -99,11 +92,13 @@ read-search b read named purposed =
     let good : Good mark (bookRead (b .bytes)) = read-good (b .bytes) (b .sent) (b .received) read in
     let counts : List ℕ = countsOf (bookRead (b .bytes) .processes) in
     record {
-      long =
-          ap (λ (shape : Shape). length (shape .counts)) (shape-left (b .bytes) (b .sent) (b .received) read)
-          ∙ length-padded 16 counts
-          (omega (arith, length-countsOf (bookRead (b .bytes) .processes), good .long, good .few));
-      accepted = read-passes-check (b .bytes) (b .sent) (b .received) read;
+      accepted = record {
+        sixteen =
+            ap (λ (shape : Shape). length (shape .counts)) (shape-left (b .bytes) (b .sent) (b .received) read)
+            ∙ length-padded 16 counts
+            (omega (arith, length-countsOf (bookRead (b .bytes) .processes), good .long, good .few));
+        passed = read-passes-check (b .bytes) (b .sent) (b .received) read;
+      };
       named = named;
       purposed = purposed;
     }
@@ -121,7 +116,7 @@ module _ (b : Beginning) (a : IsAccepted b) where
       × (haveRoom (size g) (lead g) (begins g .outgoing) (b .strands) ≡ true)
   unfolding startQuestion
   asked =
-      parts (tablesQuestion (g .shape) (g .sent) (g .received)) (isNamed (size g) (g .initiator .0)) (isPurpose (g .purpose))
+      parts (tablesQuestion (g .tables)) (isNamed (size g) (g .initiator .0)) (isPurpose (g .purpose))
       (haveRoom (size g) (lead g) (begins g .outgoing) (b .strands)) (a .start)
 
   pub is-search : IsSearch (searchOf b)
@@ -135,13 +130,13 @@ module _ (b : Beginning) (a : IsAccepted b) where
   session-left : atStart b .session ≡ withPosted (begins g)
   unfolding sessionStarted
   session-left =
-      kept-passed (startQuestion (g .shape) (g .sent) (g .received) (b .initiator) (b .purpose) (b .strands)) noSession
+      kept-passed (startQuestion (g .tables) (b .initiator) (b .purpose) (b .strands)) noSession
       (withPosted (begins g)) (a .start)
 
   strands-left : atStart b .strands ≡ posted (size g) (lead g) (begins g .outgoing) (b .strands)
   unfolding strandsStarted
   strands-left =
-      kept-passed (startQuestion (g .shape) (g .sent) (g .received) (b .initiator) (b .purpose) (b .strands)) (b .strands)
+      kept-passed (startQuestion (g .tables) (b .initiator) (b .purpose) (b .strands)) (b .strands)
       (posted (size g) (lead g) (begins g .outgoing) (b .strands)) (a .start)
 
   pub start-delivered : atStart b .session .delivered ≡ 0

@@ -29,14 +29,14 @@ use Rattle.session_theory.proofs.Moves.{Passes}
 
 -- the question that a turn naming p fails, and what it leaves
 abbrev pub questionOf : Search → Ongoing → Process → ℕ
-questionOf g o p = turnQuestion (g .shape) (g .sent) (g .received) (o .session) p (o .strands)
+questionOf g o p = turnQuestion (g .tables) (o .session) p (o .strands)
 
 abbrev pub nextOf : Search → Ongoing → Process → Ongoing
-nextOf g o p = afterTurn (g .shape) (g .sent) (g .received) o p
+nextOf g o p = afterTurn (g .tables) o p
 
 -- what the message on k's strand does
 abbrev pub goes : Search → Session → ℕ → List ℕ → Turned
-goes g s k b = deliver (g .shape) (g .sent) (g .received) s k b (held (size g) s k b)
+goes g s k b = deliver (g .tables) s k b (held (size g) s k b)
 
 -- a refused turn changes nothing
 pub record Refused (g : Search) (o : Ongoing) (p : Process) : Type 0 where
@@ -47,7 +47,7 @@ pub record Refused (g : Search) (o : Ongoing) (p : Process) : Type 0 where
 pub refuse : (g : Search) (o : Ongoing) (p : Process) → (questionOf g o p ≡ 0 → ⊥) → Refused g o p
 unfolding sessionAfter strandsAfter
 refuse g o p h =
-    let t : Turned = turned (g .shape) (g .sent) (g .received) (o .session) p (o .strands) in
+    let t : Turned = turned (g .tables) (o .session) p (o .strands) in
     record {
       question = h;
       session = kept-refused (questionOf g o p) (o .session) (withPosted t) h;
@@ -145,7 +145,7 @@ module _ (g : Search) (is : IsSearch g) (o : Ongoing) (p : Process) (box : ℕ �
   name = participantNamed (size g) (p .0) (s .initiator .0) && sessionNamed (size g) s
 
   abbrev asked : Turned
-  asked = turned (g .shape) (g .sent) (g .received) s p (o .strands)
+  asked = turned (g .tables) s p (o .strands)
 
   abbrev room : Bool
   room = haveRoom (size g) (lead g) (t .outgoing) (o .strands)
@@ -154,7 +154,7 @@ module _ (g : Search) (is : IsSearch g) (o : Ongoing) (p : Process) (box : ℕ �
   roomAsked = haveRoom (size g) (initiatorOf s) (asked .outgoing) (o .strands)
 
   abbrev fit : Bool
-  fit = sessionFits (g .shape) (g .sent) (g .received) s (o .strands)
+  fit = sessionFits (g .tables) s (o .strands)
 
   same-name : participantNamed (size g) (p .0) (s .initiator .0) ≡ isNamedPart g p
   same-name = ap (λ (i : Process). participantNamed (size g) (p .0) (i .0)) (before .leader)
@@ -162,7 +162,7 @@ module _ (g : Search) (is : IsSearch g) (o : Ongoing) (p : Process) (box : ℕ �
   pub unnamed : isNamedPart g p ≡ false → questionOf g o p ≡ 10
   unfolding turnQuestion
   unnamed none =
-      not-named (tablesQuestion (g .shape) (g .sent) (g .received)) name (sessionPurposes s) fit roomAsked (waitsOn s k) (is .accepted)
+      not-named (tablesQuestion (g .tables)) name (sessionPurposes s) fit roomAsked (waitsOn s k) (is .accepted .passed)
       (rw (same-name, none))
 
   module _ (named : isNamedPart g p ≡ true) where
@@ -177,8 +177,8 @@ module _ (g : Search) (is : IsSearch g) (o : Ongoing) (p : Process) (box : ℕ �
     questions : questionOf g o p ≡ (ask 17 room then λ _. ask 18 (waitsOn s k))
     unfolding turnQuestion
     questions =
-        passed (tablesQuestion (g .shape) (g .sent) (g .received)) name (sessionPurposes s) fit roomAsked (waitsOn s k)
-        (is .accepted)
+        passed (tablesQuestion (g .tables)) name (sessionPurposes s) fit roomAsked (waitsOn s k)
+        (is .accepted .passed)
         (both-and (participantNamed (size g) (p .0) (s .initiator .0)) (sessionNamed (size g) s) (same-name ∙ named)
         (before .passes .named))
         (before .passes .purposed) (before .passes .fitting)

@@ -1,6 +1,6 @@
 -- Who has ended and who gets a message, by the invariant.
 use mathlib.Core.Path.{_≡_, refl, sym, ap, subst, _∙_}
-use mathlib.Core.Bool.{Bool, true, false, not, _||_, true≢false}
+use mathlib.Core.Bool.{Bool, true, false, not, true≢false}
 use mathlib.Core.List.{List, []}
 use mathlib.Core.Logic.{⊎-elim}
 use Prim.Native.Nat.{ℕ, _-_, _≤_, _<_}
@@ -14,7 +14,7 @@ use Rattle.machine.specs.Own.{Own}
 use Rattle.machine.specs.Sends.{isTermination}
 use Rattle.machine.specs.Named.{isParticipant}
 use Rattle.machine.specs.Flags.{flag, someone}
-use Rattle.lists.proofs.Tests.{second-of-or}
+use Rattle.lists.proofs.Tests.{second-of-or, or-none}
 use Rattle.machine_laws.proofs.Flags.{some-flagged}
 use Rattle.participant.specs.declared.Participant.{Participant}
 use Rattle.participant.specs.Step.{stepBack, reportOf, step}
@@ -31,10 +31,6 @@ use Rattle.session_theory.proofs.Invariant.{Placed, Laid, Phase, quiet, reporte
 use Rattle.session_theory.proofs.Facts.{few, worker, part-named, ended-lead, ended-part, machine-n}
 
 -- ---- a participant's stage
-
-or-none : (a b : Bool) → (a || b) ≡ false → (a ≡ false) × (b ≡ false)
-or-none true b h = absurd (true≢false h)
-or-none false b h = (refl, h)
 
 -- who reports has not ended
 reports-going : (own : Own) (p : Participant) (m : Message) → endsIt m ≡ false → isEnded (step own p m .state .stage) ≡ false

@@ -16,7 +16,7 @@ use Rattle.session.specs.Workers.{standsOn, hasEnded, waitsOn}
 use Rattle.session.specs.Held.{waitingBytes}
 use Rattle.session.specs.Calls.{startQuestion}
 use Rattle.session.specs.Turns.{Ongoing, afterTurn, acceptedTurns, bringsLast}
-use Rattle.demand3.specs.Statement.{Beginning, shapeLeft, sentLeft, receivedLeft, viewLeft, IsAccepted, Searches, atStart, after, nextQuestion, messageWaits, someoneGoesOn, mostDelivered}
+use Rattle.demand3.specs.Statement.{Beginning, shapeLeft, viewLeft, IsAccepted, Searches, atStart, after, nextQuestion, messageWaits, someoneGoesOn, mostDelivered, tablesLeft}
 
 -- Room for all strands, (n − 1) × (6n − 2) bytes, suffices for the start too, with any purpose.
 abbrev pub StartHasRoom : Type 0
@@ -24,7 +24,7 @@ StartHasRoom =
     (b : Beginning) → readQuestion (b .bytes) (b .sent) (b .received) ≡ 0
     → isNamed (shapeLeft b .n) (b .initiator .0) ≡ true → isPurpose (b .purpose) ≡ true
     → roomForAll (shapeLeft b .n) ≤ length (b .strands)
-    → startQuestion (shapeLeft b) (sentLeft b) (receivedLeft b) (b .initiator) (b .purpose) (b .strands) ≡ 0
+    → startQuestion (tablesLeft b) (b .initiator) (b .purpose) (b .strands) ≡ 0
 
 -- With room, some turn is accepted for as long as some worker has not ended,
 abbrev pub GoesOn : Type 0
@@ -40,7 +40,7 @@ AtEnd b turns =
     → (hasEnded (after b turns .session) j ≡ true) × (standsOn (after b turns .session) j ≡ line (viewLeft b) j)
 
 abbrev pub acceptedIn : Beginning → List Process → ℕ
-acceptedIn b turns = acceptedTurns (shapeLeft b) (sentLeft b) (receivedLeft b) (atStart b) turns
+acceptedIn b turns = acceptedTurns (tablesLeft b) (atStart b) turns
 
 -- so that from every list on there are further turns, each of them accepted, after which every worker has ended, on the line.
 -- With those accepted before they are at most as many as demand 3 allows.
@@ -63,7 +63,7 @@ StaysUntilDelivered =
     (b : Beginning) → IsAccepted b → (turns : List Process) (p : Process) (k : ℕ)
     → let n : ℕ = shapeLeft b .n in
     let before : Ongoing = after b turns in
-    let next : Ongoing = afterTurn (shapeLeft b) (sentLeft b) (receivedLeft b) before p in
+    let next : Ongoing = afterTurn (tablesLeft b) before p in
     (DeliversOn b turns p k → ⊥) → waitsOn (before .session) k ≡ true
     → (waitsOn (next .session) k ≡ true)
     × (waitingBytes n (next .session) (next .strands) k ≡ waitingBytes n (before .session) (before .strands) k)
@@ -75,9 +75,9 @@ LeavesOthers =
     (b : Beginning) → IsAccepted b → (turns : List Process) (p : Process) (k : ℕ)
     → let n : ℕ = shapeLeft b .n in
     let before : Ongoing = after b turns in
-    let next : Ongoing = afterTurn (shapeLeft b) (sentLeft b) (receivedLeft b) before p in
+    let next : Ongoing = afterTurn (tablesLeft b) before p in
     isParticipant n (b .initiator .0 - 1) k ≡ true → (DeliversOn b turns p k → ⊥)
-    → (nextQuestion b turns p ≡ 0 → bringsLast (shapeLeft b) (sentLeft b) (receivedLeft b) before p ≡ false)
+    → (nextQuestion b turns p ≡ 0 → bringsLast (tablesLeft b) before p ≡ false)
     → waitingBytes n (next .session) (next .strands) k ≡ waitingBytes n (before .session) (before .strands) k
 
 -- Purpose 2: after n − 1 accepted turns everybody has ended on checkpoint 1, and nothing waits. For as long as some worker has not
@@ -85,13 +85,13 @@ LeavesOthers =
 pub record RestartHolds (b : Beginning) (turns : List Process) : Type 0 where
   -- "a message waits exactly when some worker has not ended"
   pub waits-exactly : messageWaits (after b turns .session) ≡ someoneGoesOn (shapeLeft b .n) (after b turns .session)
-  pub few-delivered : acceptedTurns (shapeLeft b) (sentLeft b) (receivedLeft b) (atStart b) turns ≤ shapeLeft b .n - 1
-  pub delivered : after b turns .session .delivered ≡ acceptedTurns (shapeLeft b) (sentLeft b) (receivedLeft b) (atStart b) turns
+  pub few-delivered : acceptedTurns (tablesLeft b) (atStart b) turns ≤ shapeLeft b .n - 1
+  pub delivered : after b turns .session .delivered ≡ acceptedTurns (tablesLeft b) (atStart b) turns
   pub no-round : after b turns .session .machine .rounds ≡ 0
   pub on-oldest :
       (j : ℕ) → j < shapeLeft b .n → hasEnded (after b turns .session) j ≡ true → standsOn (after b turns .session) j ≡ 1
   pub all-ended :
-      acceptedTurns (shapeLeft b) (sentLeft b) (receivedLeft b) (atStart b) turns ≡ shapeLeft b .n - 1
+      acceptedTurns (tablesLeft b) (atStart b) turns ≡ shapeLeft b .n - 1
       → ((j : ℕ) → j < shapeLeft b .n → hasEnded (after b turns .session) j ≡ true)
       × (messageWaits (after b turns .session) ≡ false)
   pub accepted :

@@ -7,10 +7,11 @@ use mathlib.Core.List.{List}
 use mathlib.Core.Logic.{_⊎_}
 use Prim.Native.Nat.{ℕ, _+_, _-_, _*_, _≤_, _<_}
 use lib.ListN.{length}
+use Rattle.book.specs.Lent.{Tables}
 use Rattle.book.specs.declared.Shape.{Shape}
 use Rattle.book.specs.declared.Process.{Process}
 use Rattle.book.specs.Bounds.{mostProcesses}
-use Rattle.book.specs.Read.{readQuestion, shapeRead, sentRead, receivedRead}
+use Rattle.book.specs.Read.{readQuestion, tablesRead}
 use Rattle.lists.specs.Over.{allTo}
 use Rattle.line_theory.specs.Sets.{View, IsSet, Consistent}
 use Rattle.line_theory.specs.Search.{line, passed}
@@ -34,22 +35,19 @@ pub record Beginning : Type 0 where
   pub strands : List ℕ
 
 -- the tables that the read leaves
+abbrev pub tablesLeft : Beginning → Tables
+tablesLeft b = tablesRead (b .bytes) (b .sent) (b .received)
+
 abbrev pub shapeLeft : Beginning → Shape
-shapeLeft b = shapeRead (b .bytes) (b .sent) (b .received)
-
-abbrev pub sentLeft : Beginning → List ℕ
-sentLeft b = sentRead (b .bytes) (b .sent) (b .received)
-
-abbrev pub receivedLeft : Beginning → List ℕ
-receivedLeft b = receivedRead (b .bytes) (b .sent) (b .received)
+shapeLeft b = tablesLeft b .shape
 
 abbrev pub viewLeft : Beginning → View
-viewLeft b = viewOf (shapeLeft b) (sentLeft b) (receivedLeft b)
+viewLeft b = viewOf (tablesLeft b)
 
 -- the read and the start are accepted
 pub record IsAccepted (b : Beginning) : Type 0 where
   pub read : readQuestion (b .bytes) (b .sent) (b .received) ≡ 0
-  pub start : startQuestion (shapeLeft b) (sentLeft b) (receivedLeft b) (b .initiator) (b .purpose) (b .strands) ≡ 0
+  pub start : startQuestion (tablesLeft b) (b .initiator) (b .purpose) (b .strands) ≡ 0
 
 -- "a search for the line (no bare restart)": "Purposes 1 and 3 search."
 abbrev pub Searches : Beginning → Type 0
@@ -57,15 +55,14 @@ Searches b = (b .purpose ≡ 1) ⊎ (b .purpose ≡ 3)
 
 -- the session and the strands as the start leaves them, and after a list of turns
 abbrev pub atStart : Beginning → Ongoing
-atStart b = started (shapeLeft b) (sentLeft b) (receivedLeft b) (b .initiator) (b .purpose) (b .strands)
+atStart b = started (tablesLeft b) (b .initiator) (b .purpose) (b .strands)
 
 abbrev pub after : Beginning → List Process → Ongoing
-after b turns = afterTurns (shapeLeft b) (sentLeft b) (receivedLeft b) (atStart b) turns
+after b turns = afterTurns (tablesLeft b) (atStart b) turns
 
 -- the question that a turn naming p would fail then
 abbrev pub nextQuestion : Beginning → List Process → Process → ℕ
-nextQuestion b turns p =
-    turnQuestion (shapeLeft b) (sentLeft b) (receivedLeft b) (after b turns .session) p (after b turns .strands)
+nextQuestion b turns p = turnQuestion (tablesLeft b) (after b turns .session) p (after b turns .strands)
 
 -- a message waits on some strand
 abbrev pub messageWaits : Session → Bool
@@ -89,13 +86,13 @@ pub record HoldsAfter (b : Beginning) (turns : List Process) : Type 0 where
   pub waits-exactly : messageWaits (after b turns .session) ≡ someoneGoesOn (shapeLeft b .n) (after b turns .session)
   -- "The messages delivered are the accepted turns of the list, and the session's count equals their number."
   pub delivered :
-      after b turns .session .delivered ≡ acceptedTurns (shapeLeft b) (sentLeft b) (receivedLeft b) (atStart b) turns
+      after b turns .session .delivered ≡ acceptedTurns (tablesLeft b) (atStart b) turns
   -- "At most (n − 1) × (2T + 5) messages have been delivered,"
   pub few-delivered : after b turns .session .delivered ≤ mostDelivered (viewLeft b)
   -- "A round is one wait of at least one report, counted as the wait begins."
   pub rounds :
       after b turns .session .machine .rounds
-      ≡ startWaits b + waitsBegun (shapeLeft b) (sentLeft b) (receivedLeft b) (atStart b) turns
+      ≡ startWaits b + waitsBegun (tablesLeft b) (atStart b) turns
   -- (not in demand 3's own words; 01 wants the count of rounds too "bounded in demand 3")
   pub few-rounds : after b turns .session .machine .rounds ≤ passed (viewLeft b) + 2
   -- "No worker stands on a checkpoint earlier than the line's,"

@@ -5,6 +5,7 @@ use mathlib.Core.List.{List}
 use Prim.Native.Nat.{ℕ}
 use borrow.Author.Tests.{eq-eqb}
 use lib.ListN.{length}
+use Rattle.book.specs.Lent.{lent}
 use Rattle.book.specs.declared.Shape.{Shape}
 use Rattle.book.specs.InTurn.{ask}
 use Rattle.book.specs.Check.{tablesQuestion}
@@ -12,7 +13,8 @@ use Rattle.book.specs.Read.{readQuestion}
 use Rattle.book.proofs.Questions.{then-both, ask-yes}
 use Rattle.lists.proofs.Tests.{both-and}
 use Rattle.session.specs.Calls.{startQuestion}
-use Rattle.words.specs.Words.{shapeLength, setLength, sessionLength, wrongLength, isLong}
+use Rattle.words.specs.Words.{shapeLength, setLength, wrongLength, isLong}
+use Rattle.words.specs.Session.{sessionLength}
 use Rattle.words.specs.Plain.{shapeIn}
 use Rattle.recovery_line.specs.Machines.{asProcess}
 use Rattle.recovery_line.specs.Books.{shapeQuestion, readAnswer}
@@ -40,23 +42,23 @@ module _ (b : Lent) (long : HasLengths b) (accepted : IsAccepted (inside b)) whe
   given = shapeIn (shapeGiven b)
 
   same : given ≡ shapeLeft (inside b)
-  same = shape-is b reads (is-search (inside b) accepted .long)
+  same = shape-is b reads (is-search (inside b) accepted .accepted .sixteen)
 
   finds : findAnswer (shapeGiven b) (sentGiven b) (receivedGiven b) (b .line) ≡ 0
   unfolding findAnswer
   finds =
       then-both (ask wrongLength (isLong shapeLength (shapeGiven b) && isLong setLength (b .line)))
-      (λ _. tablesQuestion given (sentGiven b) (receivedGiven b))
+      (λ _. tablesQuestion (lent given (sentGiven b) (receivedGiven b)))
       (both-long shapeLength setLength (shapeGiven b) (b .line) (shape-long b reads) (long .line))
-      ((λ i. tablesQuestion (same i) (sent-given b reads i) (received-given b reads i)) ∙ is-search (inside b) accepted .accepted)
+      ((λ i. tablesQuestion (lent (same i) (sent-given b reads i) (received-given b reads i))) ∙ is-search (inside b) accepted .accepted .passed)
 
   starts : startAnswer (shapeGiven b) (sentGiven b) (receivedGiven b) (b .initiator) (b .purpose) (b .session) (b .strands) ≡ 0
   unfolding startAnswer
   starts =
       then-both (ask wrongLength (isLong shapeLength (shapeGiven b) && isLong sessionLength (b .session)))
-      (λ _. startQuestion given (sentGiven b) (receivedGiven b) (asProcess (b .initiator)) (b .purpose) (b .strands))
+      (λ _. startQuestion (lent given (sentGiven b) (receivedGiven b)) (asProcess (b .initiator)) (b .purpose) (b .strands))
       (both-long shapeLength sessionLength (shapeGiven b) (b .session) (shape-long b reads) (long .session))
-      ((λ i. startQuestion (same i) (sent-given b reads i) (received-given b reads i) (asProcess (b .initiator)) (b .purpose) (b .strands))
+      ((λ i. startQuestion (lent (same i) (sent-given b reads i) (received-given b reads i)) (asProcess (b .initiator)) (b .purpose) (b .strands))
       ∙ accepted .start)
 
 pub accepts-as-inside : AcceptsAsInside

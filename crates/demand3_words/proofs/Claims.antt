@@ -6,6 +6,7 @@ use mathlib.Core.Logic.{_⊎_}
 use Prim.Native.Nat.{ℕ, _+_, _-_, _*_, _≤_, _<_}
 use native.Mathlib.Omega.{arith}
 use lib.ListN.{length}
+use Rattle.book.specs.Lent.{lent}
 use Rattle.book.specs.declared.Process.{Process}
 use Rattle.line_theory.specs.Sets.{View, IsSet, Consistent}
 use Rattle.line_theory.specs.Search.{line, passed}
@@ -18,11 +19,11 @@ use Rattle.session.specs.declared.Session.{Session}
 use Rattle.session.specs.Workers.{standsOn, hasEnded, waitsOn}
 use Rattle.session.specs.Calls.{turnQuestion}
 use Rattle.session.specs.Turns.{Ongoing, started, afterTurns, acceptedTurns, waitsBegun}
-use Rattle.words.specs.Words.{word}
+use Rattle.words.specs.Words.{word, shapeLength}
 use Rattle.words.specs.Plain.{shapeIn}
 use Rattle.recovery_line.specs.Machines.{asProcess}
 use Rattle.recovery_line.specs.Sessions.{turnAnswer}
-use Rattle.demand3.specs.Statement.{HoldsAfter, atStart, after, nextQuestion, startWaits, shapeLeft, sentLeft, receivedLeft, viewLeft}
+use Rattle.demand3.specs.Statement.{HoldsAfter, atStart, after, nextQuestion, startWaits, shapeLeft, viewLeft, tablesLeft}
 use Rattle.demand3.proofs.Theorems.{demand-3}
 use Rattle.word_laws.specs.Values.{IsSession}
 use Rattle.word_laws.proofs.Reading.{read-delivered, read-rounds}
@@ -68,14 +69,14 @@ module _ (b : Lent) (a : AllAccept b) (h : IsSearch b) (turns : List ℕ) where
   s = o .session
 
   abbrev given : Ongoing
-  given = afterTurns (shapeIn (shapeGiven b)) (sentGiven b) (receivedGiven b) (first b a) processes
+  given = afterTurns (lent (shapeIn (shapeGiven b)) (sentGiven b) (receivedGiven b)) (first b a) processes
 
   same : given ≡ o
   same =
-      λ i. afterTurns (shape-same b a i) (sent-same b a i) (received-same b a i)
-      (started (shape-same b a i) (sent-same b a i) (received-same b a i) (asProcess (b .initiator)) (b .purpose) (b .strands)) processes
+      λ i. afterTurns (lent (shape-same b a i) (sent-same b a i) (received-same b a i))
+      (started (lent (shape-same b a i) (sent-same b a i) (received-same b a i)) (asProcess (b .initiator)) (b .purpose) (b .strands)) processes
 
-  long : length (shapeGiven b) ≡ 17
+  long : length (shapeGiven b) ≡ shapeLength
   long = shape-long b (a .read)
 
   by-calls : handedAfter b turns ≡ handed given
@@ -102,7 +103,7 @@ module _ (b : Lent) (a : AllAccept b) (h : IsSearch b) (turns : List ℕ) where
   size = size-given b (a .read)
 
   few : shapeLeft (inside b) .n ≤ 16
-  few = accepted-size (shapeLeft (inside b)) (sentLeft (inside b)) (receivedLeft (inside b)) (is-search b a .accepted) .1
+  few = accepted-size (is-search b a .accepted) .1
 
   -- ---- what is read
 
@@ -119,7 +120,7 @@ module _ (b : Lent) (a : AllAccept b) (h : IsSearch b) (turns : List ℕ) where
   answer p =
       ap (λ (w : Handed). turnAnswer (w .session) (shapeGiven b) (sentGiven b) (receivedGiven b) p (w .strands)) by-calls
       ∙ answer-is (shapeGiven b) (sentGiven b) (receivedGiven b) long given given-is p
-      ∙ (λ i. turnQuestion (shape-same b a i) (sent-same b a i) (received-same b a i) (same i .session) (asProcess p) (same i .strands))
+      ∙ (λ i. turnQuestion (lent (shape-same b a i) (sent-same b a i) (received-same b a i)) (same i .session) (asProcess p) (same i .strands))
 
   module _ (j : ℕ) (there : j < sizeGiven b) where
     within : j < shapeLeft (inside b) .n
@@ -170,29 +171,29 @@ module _ (b : Lent) (a : AllAccept b) (h : IsSearch b) (turns : List ℕ) where
       ∙ (λ i.
       pick
       (someone
-      (started (shape-same b a i) (sent-same b a i) (received-same b a i) (asProcess (b .initiator)) (b .purpose) (b .strands) .session .machine .awaited))
+      (started (lent (shape-same b a i) (sent-same b a i) (received-same b a i)) (asProcess (b .initiator)) (b .purpose) (b .strands) .session .machine .awaited))
       1 0)
 
   begun-is :
       waitsBegunBy (shapeGiven b) (sentGiven b) (receivedGiven b) (b .initiator) (handedByStart b) turns
-      ≡ waitsBegun (shapeLeft (inside b)) (sentLeft (inside b)) (receivedLeft (inside b)) (atStart (inside b)) processes
+      ≡ waitsBegun (tablesLeft (inside b)) (atStart (inside b)) processes
   begun-is =
       ap (λ (w : Handed). waitsBegunBy (shapeGiven b) (sentGiven b) (receivedGiven b) (b .initiator) w turns) (start-handed b a)
       ∙ begun-are (shapeGiven b) (sentGiven b) (receivedGiven b) long (b .initiator) turns (first b a) (first-is b a)
       (ap (λ (p : Process). p .0) (first-lead b a))
       ∙ (λ i.
-      waitsBegun (shape-same b a i) (sent-same b a i) (received-same b a i)
-      (started (shape-same b a i) (sent-same b a i) (received-same b a i) (asProcess (b .initiator)) (b .purpose) (b .strands)) processes)
+      waitsBegun (lent (shape-same b a i) (sent-same b a i) (received-same b a i))
+      (started (lent (shape-same b a i) (sent-same b a i) (received-same b a i)) (asProcess (b .initiator)) (b .purpose) (b .strands)) processes)
 
   accepted-is :
       acceptedCalls (shapeGiven b) (sentGiven b) (receivedGiven b) (handedByStart b) turns
-      ≡ acceptedTurns (shapeLeft (inside b)) (sentLeft (inside b)) (receivedLeft (inside b)) (atStart (inside b)) processes
+      ≡ acceptedTurns (tablesLeft (inside b)) (atStart (inside b)) processes
   accepted-is =
       ap (λ (w : Handed). acceptedCalls (shapeGiven b) (sentGiven b) (receivedGiven b) w turns) (start-handed b a)
       ∙ accepted-are (shapeGiven b) (sentGiven b) (receivedGiven b) long turns (first b a) (first-is b a)
       ∙ (λ i.
-      acceptedTurns (shape-same b a i) (sent-same b a i) (received-same b a i)
-      (started (shape-same b a i) (sent-same b a i) (received-same b a i) (asProcess (b .initiator)) (b .purpose) (b .strands)) processes)
+      acceptedTurns (lent (shape-same b a i) (sent-same b a i) (received-same b a i))
+      (started (lent (shape-same b a i) (sent-same b a i) (received-same b a i)) (asProcess (b .initiator)) (b .purpose) (b .strands)) processes)
 
   -- ---- together
 

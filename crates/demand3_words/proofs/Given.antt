@@ -4,6 +4,7 @@ use mathlib.Core.Bool.{Bool, true, _&&_}
 use mathlib.Core.List.{List}
 use Prim.Native.Nat.{ℕ, suc, _<_}
 use lib.ListN.{length}
+use Rattle.book.specs.Lent.{lent}
 use Rattle.book.specs.declared.Shape.{Shape}
 use Rattle.book.specs.InTurn.{ask}
 use Rattle.book.specs.Check.{tablesQuestion}
@@ -23,14 +24,14 @@ use Rattle.session.specs.Calls.{noSession, startQuestion, sessionStarted}
 use Rattle.session.specs.Turns.{Ongoing, started}
 use Rattle.session_theory.proofs.Search.{IsSearch}
 use Rattle.turns.proofs.Starting.{named-none}
-use Rattle.words.specs.Words.{word, shapeLength, setLength, sessionLength, wrongLength, isLong}
+use Rattle.words.specs.Words.{word, shapeLength, setLength, wrongLength, isLong}
 use Rattle.words.specs.Plain.{shapeIn, shapeWords, setWords}
-use Rattle.words.specs.Session.{sessionWords}
+use Rattle.words.specs.Session.{sessionLength, sessionWords}
 use Rattle.recovery_line.specs.Machines.{asProcess}
 use Rattle.recovery_line.specs.Books.{shapeQuestion, readAnswer, readShape, readSent, readReceived}
 use Rattle.recovery_line.specs.Lines.{findAnswer, findLine, findPassed}
 use Rattle.recovery_line.specs.Sessions.{startAnswer, startSession, startStrands}
-use Rattle.demand3.specs.Statement.{IsAccepted, shapeLeft, sentLeft, receivedLeft, viewLeft}
+use Rattle.demand3.specs.Statement.{IsAccepted, shapeLeft, viewLeft, tablesLeft}
 use Rattle.demand3.proofs.Start.{searchOf, read-search}
 use Rattle.word_laws.specs.Values.{IsSession}
 use Rattle.word_laws.proofs.Theorems.{shape-back}
@@ -61,13 +62,13 @@ module _ (b : Lent) (read : readAnswer (b .bytes) (b .shape) (b .sent) (b .recei
   unfolding readShape
   shape-given = kept-passed answer (b .shape) (shapeWords (shapeLeft (inside b))) read
 
-  pub sent-given : sentGiven b ≡ sentLeft (inside b)
+  pub sent-given : sentGiven b ≡ tablesLeft (inside b) .sent
   unfolding readSent
-  sent-given = kept-passed answer (b .sent) (sentLeft (inside b)) read
+  sent-given = kept-passed answer (b .sent) (tablesLeft (inside b) .sent) read
 
-  pub received-given : receivedGiven b ≡ receivedLeft (inside b)
+  pub received-given : receivedGiven b ≡ tablesLeft (inside b) .received
   unfolding readReceived
-  received-given = kept-passed answer (b .received) (receivedLeft (inside b)) read
+  received-given = kept-passed answer (b .received) (tablesLeft (inside b) .received) read
 
   pub shape-long : length (shapeGiven b) ≡ shapeLength
   shape-long = ap length shape-given ∙ words-long (shapeLeft (inside b))
@@ -86,7 +87,7 @@ module _ (b : Lent) (a : AllAccept b) where
   given = shapeIn (shapeGiven b)
 
   abbrev question : ℕ
-  question = startQuestion given (sentGiven b) (receivedGiven b) (asProcess (b .initiator)) (b .purpose) (b .strands)
+  question = startQuestion (lent given (sentGiven b) (receivedGiven b)) (asProcess (b .initiator)) (b .purpose) (b .strands)
 
   start-asked : question ≡ 0
   unfolding startAnswer
@@ -99,7 +100,7 @@ module _ (b : Lent) (a : AllAccept b) where
       let names : Bool = isNamed (sizeGiven b) (b .initiator) in
       let both =
       then-none (ask 10 names) (λ _. ask 11 (isPurpose (b .purpose)))
-      (named-none given (sentGiven b) (receivedGiven b) (asProcess (b .initiator)) (b .purpose) (b .strands) start-asked) in
+      (named-none (lent given (sentGiven b) (receivedGiven b)) (asProcess (b .initiator)) (b .purpose) (b .strands) start-asked) in
       (asked-yes 9 names (both .0), asked-yes 10 (isPurpose (b .purpose)) (both .1))
 
   pub is-named : isNamed (shapeLeft (inside b) .n) (b .initiator) ≡ true
@@ -110,38 +111,38 @@ module _ (b : Lent) (a : AllAccept b) where
 
   -- the tables are the same
   pub shape-same : given ≡ shapeLeft (inside b)
-  shape-same = shape-is b (a .read) (is-search .long)
+  shape-same = shape-is b (a .read) (is-search .accepted .sixteen)
 
-  pub sent-same : sentGiven b ≡ sentLeft (inside b)
+  pub sent-same : sentGiven b ≡ tablesLeft (inside b) .sent
   sent-same = sent-given b (a .read)
 
-  pub received-same : receivedGiven b ≡ receivedLeft (inside b)
+  pub received-same : receivedGiven b ≡ tablesLeft (inside b) .received
   received-same = received-given b (a .read)
 
   pub view-same : viewGiven b ≡ viewLeft (inside b)
-  view-same = λ i. viewOf (shape-same i) (sent-same i) (received-same i)
+  view-same = λ i. viewOf (lent (shape-same i) (sent-same i) (received-same i))
 
   -- and so the calls inside accept
   pub accepts : IsAccepted (inside b)
   accepts =
       let same : question
-      ≡ startQuestion (shapeLeft (inside b)) (sentLeft (inside b)) (receivedLeft (inside b)) (asProcess (b .initiator)) (b .purpose) (b .strands) =
-      λ i. startQuestion (shape-same i) (sent-same i) (received-same i) (asProcess (b .initiator)) (b .purpose) (b .strands) in
+      ≡ startQuestion (tablesLeft (inside b)) (asProcess (b .initiator)) (b .purpose) (b .strands) =
+      λ i. startQuestion (lent (shape-same i) (sent-same i) (received-same i)) (asProcess (b .initiator)) (b .purpose) (b .strands) in
       record { read = read-asked b (a .read); start = sym same ∙ start-asked }
 
   -- ---- the start
 
   abbrev pub first : Ongoing
-  first = started given (sentGiven b) (receivedGiven b) (asProcess (b .initiator)) (b .purpose) (b .strands)
+  first = started (lent given (sentGiven b) (receivedGiven b)) (asProcess (b .initiator)) (b .purpose) (b .strands)
 
   pub first-is : IsSession (first .session)
   first-is =
-      start-is-session given (sentGiven b) (receivedGiven b) (asProcess (b .initiator)) (b .purpose) (b .strands) (counts-sixteen (shapeGiven b))
+      start-is-session (lent given (sentGiven b) (receivedGiven b)) (asProcess (b .initiator)) (b .purpose) (b .strands) (counts-sixteen (shapeGiven b))
 
   pub first-lead : first .session .initiator ≡ asProcess (b .initiator)
   unfolding sessionStarted withPosted begun
   first-lead =
-      let next = begun given (sentGiven b) (receivedGiven b) (asProcess (b .initiator)) (b .purpose) in
+      let next = begun (lent given (sentGiven b) (receivedGiven b)) (asProcess (b .initiator)) (b .purpose) in
       ap (λ (s : Session). s .initiator) (kept-passed question noSession (withPosted next) start-asked)
 
   abbrev start-answer : ℕ
@@ -159,11 +160,11 @@ module _ (b : Lent) (a : AllAccept b) where
   abbrev found : ℕ
   found = findAnswer (shapeGiven b) (sentGiven b) (receivedGiven b) (b .line)
 
-  tables-passed : tablesQuestion given (sentGiven b) (receivedGiven b) ≡ 0
+  tables-passed : tablesQuestion (lent given (sentGiven b) (receivedGiven b)) ≡ 0
   unfolding findAnswer
   tables-passed =
       then-none (ask wrongLength (isLong shapeLength (shapeGiven b) && isLong setLength (b .line)))
-      (λ _. tablesQuestion given (sentGiven b) (receivedGiven b)) (a .find) .1
+      (λ _. tablesQuestion (lent given (sentGiven b) (receivedGiven b))) (a .find) .1
 
   abbrev its-line : ℕ → ℕ
   its-line = line (viewGiven b)
@@ -171,8 +172,8 @@ module _ (b : Lent) (a : AllAccept b) where
   line-words : lineGiven b ≡ setWords (checkpoints its-line)
   unfolding findLine lineFound
   line-words =
-      kept-passed found (b .line) (setWords (lineFound given (sentGiven b) (receivedGiven b))) (a .find)
-      ∙ ap setWords (kept-passed (tablesQuestion given (sentGiven b) (receivedGiven b)) noLine (checkpoints its-line) tables-passed)
+      kept-passed found (b .line) (setWords (lineFound (lent given (sentGiven b) (receivedGiven b)))) (a .find)
+      ∙ ap setWords (kept-passed (tablesQuestion (lent given (sentGiven b) (receivedGiven b))) noLine (checkpoints its-line) tables-passed)
 
   pub line-given : (j : ℕ) → j < 16 → word (lineGiven b) j ≡ its-line j
   line-given j h =
@@ -181,5 +182,5 @@ module _ (b : Lent) (a : AllAccept b) where
   pub passed-given : passedGiven b ≡ newerThan (viewGiven b) its-line
   unfolding findPassed passedFound
   passed-given =
-      kept-passed found (b .passed) (passedFound given (sentGiven b) (receivedGiven b)) (a .find)
-      ∙ kept-passed (tablesQuestion given (sentGiven b) (receivedGiven b)) 0 (newerThan (viewGiven b) its-line) tables-passed
+      kept-passed found (b .passed) (passedFound (lent given (sentGiven b) (receivedGiven b))) (a .find)
+      ∙ kept-passed (tablesQuestion (lent given (sentGiven b) (receivedGiven b))) 0 (newerThan (viewGiven b) its-line) tables-passed

@@ -9,21 +9,22 @@ use borrow.Author.Tests.{eqb-true}
 use lib.ListN.{length, getD, set, length-set, length-replicate, getD-replicate}
 use lib.Seq.{getD-set-same, getD-set-other}
 use lib.Dec.{eqb}
-use Rattle.book.specs.declared.Shape.{Shape}
+use Rattle.book.specs.Lent.{Tables}
 use Rattle.book.specs.declared.Process.{Process}
 use Rattle.book.specs.Bounds.{mostProcesses}
 use Rattle.book.specs.InTurn.{unlessRefused}
 use Rattle.lists.proofs.Over.{length-tab, getD-tab}
 use Rattle.lists.specs.Pick.{pick}
+use Rattle.lists.proofs.Pick.{pick-each}
 use Rattle.matrix.specs.Matrix.{row}
 use Rattle.matrix.specs.Entries.{allLower}
 use Rattle.message.specs.declared.Message.{Message}
 use Rattle.message.specs.Formed.{messageFormed}
 use Rattle.machine.specs.Own.{Own, ownOf}
-use Rattle.machine.specs.Named.{isParticipant, countLimit}
+use Rattle.machine.specs.Named.{isParticipant, tallyLimit}
 use Rattle.machine_laws.specs.Own.{IsOwn}
 use Rattle.machine_laws.proofs.Calls.{three-yes}
-use Rattle.machine_laws.proofs.Theorems.{accepted-is-own}
+use Rattle.machine_laws.proofs.Theorems.{is-own}
 use Rattle.participant.specs.declared.Participant.{Participant}
 use Rattle.participant.specs.Step as participant-step
 use Rattle.participant.specs.Calls as participant
@@ -43,7 +44,6 @@ use Rattle.turns.proofs.Starting.{tables-none, named-none, start-there}
 use Rattle.demand3.proofs.Counts.{report-passes, report-sender}
 use Rattle.word_laws.specs.Values.{IsParticipant, IsInitiator, IsSession}
 use Rattle.demand3_words.specs.Kept.{StartIsSession, TurnIsSession}
-use Rattle.demand3_words.proofs.Counters.{pick-each}
 use Rattle.demand3_words.proofs.Machines.{first-is, absent-is, participant-kept, nobody-is, begin-is, initiator-kept}
 use Rattle.demand3_words.proofs.Passed.{place-small, its-own, initiator-own, rounds-few, delivered-few}
 
@@ -77,34 +77,33 @@ none-is =
       delivered = omega arith;
     }
 
-begun-is : (shape : Shape) (sent received : List ℕ) (initiator : Process) (purpose : ℕ)
-    → IsOwn (ownOf shape sent received (initiator .0 - 1)) (initiator .0 - 1)
-    → IsSession (begun shape sent received initiator purpose .session)
+begun-is : (tables : Tables) (initiator : Process) (purpose : ℕ)
+    → IsOwn (ownOf tables (initiator .0 - 1)) (initiator .0 - 1) → IsSession (begun tables initiator purpose .session)
 unfolding begun
-begun-is shape sent received initiator purpose own =
-    let place : ℕ → Participant = placeAtStart shape sent received initiator purpose in
+begun-is tables initiator purpose own =
+    let place : ℕ → Participant = placeAtStart tables initiator purpose in
     record {
-      machine = begin-is (ownOf shape sent received (initiator .0 - 1)) initiator purpose own;
+      machine = begin-is (ownOf tables (initiator .0 - 1)) initiator purpose own;
       sixteen = length-tab 16 place;
       participants = λ k h.
           subst IsParticipant (sym (getD-tab 16 place k participant.noParticipant h))
-          (pick-each IsParticipant (isParticipant (shape .n) (initiator .0 - 1) k)
-          (participant-step.first (ownOf shape sent received k) (record { 0 = suc k }) initiator purpose) participant.noParticipant
-          (first-is (ownOf shape sent received k) (record { 0 = suc k }) initiator purpose) absent-is);
+          (pick-each IsParticipant (isParticipant (tables .shape .n) (initiator .0 - 1) k)
+          (participant-step.first (ownOf tables k) (record { 0 = suc k }) initiator purpose) participant.noParticipant
+          (first-is (ownOf tables k) (record { 0 = suc k }) initiator purpose) absent-is);
       lengths = length-replicate {A = ℕ} 16 0;
       delivered = omega arith;
     }
 
 pub start-is-session : StartIsSession
 unfolding sessionStarted
-start-is-session shape sent received initiator purpose strands sixteen =
-    by-answer IsSession (startQuestion shape sent received initiator purpose strands) noSession
-    (withPosted (begun shape sent received initiator purpose)) none-is
+start-is-session tables initiator purpose strands sixteen =
+    by-answer IsSession (startQuestion tables initiator purpose strands) noSession
+    (withPosted (begun tables initiator purpose)) none-is
     (λ accepted.
-    let there = start-there shape sent received initiator purpose strands (named-none shape sent received initiator purpose strands accepted) in
-    posted-is (begun shape sent received initiator purpose)
-    (begun-is shape sent received initiator purpose
-    (accepted-is-own shape sent received (initiator .0 - 1) sixteen (tables-none shape sent received initiator purpose strands accepted)
+    let there = start-there tables initiator purpose strands (named-none tables initiator purpose strands accepted) in
+    posted-is (begun tables initiator purpose)
+    (begun-is tables initiator purpose
+    (is-own {t = tables} (record { sixteen = sixteen; passed = tables-none tables initiator purpose strands accepted }) (initiator .0 - 1)
     (omega (arith, there)))))
 
 -- ---- a delivery
@@ -137,9 +136,9 @@ down-passes n session k s h =
     (only-down (eqb (length s) 0) (eqb (senderIn s) (session .initiator .0)) (eqb (participant.messageQuestion n p s) 0)
     (endsSearch (participant.readBy n p s)) (eqb (senderIn s) (suc k)) (eqb (initiator.messageQuestion n (session .machine) s) 0) h)
 
-module _ (shape : Shape) (sent received : List ℕ) (session : Session) (is : IsSession session) where
+module _ (tables : Tables) (session : Session) (is : IsSession session) where
   -- the machines after it
-  delivered-is : (k : ℕ) (machine : Initiator) (participants : List Participant) → session .delivered < countLimit
+  delivered-is : (k : ℕ) (machine : Initiator) (participants : List Participant) → session .delivered < tallyLimit
       → IsInitiator machine → length participants ≡ 16
       → ((q : ℕ) → q < 16 → IsParticipant (getD participants q participant.noParticipant))
       → IsSession (deliveredOn session k machine participants)
@@ -161,50 +160,50 @@ module _ (shape : Shape) (sent received : List ℕ) (session : Session) (is : Is
         | no ne ↦ rw (getD-set-other (session .participants) k q p participant.noParticipant ne) (is .participants q h)
       ]
 
-  module _ (p : Process) (strands : List ℕ) (sixteen : length (shape .counts) ≡ mostProcesses)
-      (accepted : turnQuestion shape sent received session p strands ≡ 0) where
+  module _ (p : Process) (strands : List ℕ) (sixteen : length (tables .shape .counts) ≡ mostProcesses)
+      (accepted : turnQuestion tables session p strands ≡ 0) where
     abbrev k : ℕ
     k = p .0 - 1
 
     abbrev s : List ℕ
-    s = waitingBytes (shape .n) session strands k
+    s = waitingBytes (tables .shape .n) session strands k
 
-    few : session .delivered < countLimit
-    few = delivered-few shape sent received session p strands accepted sixteen
+    few : session .delivered < tallyLimit
+    few = delivered-few tables session p strands accepted sixteen
 
-    down-is : goesDown (held (shape .n) session k s) ≡ true → IsSession (deliverDown shape sent received session k s .session)
+    down-is : goesDown (held (tables .shape .n) session k s) ≡ true → IsSession (deliverDown tables session k s .session)
     unfolding deliverDown
     down-is h =
-        let small : k < 16 = place-small shape sent received session p strands accepted in
+        let small : k < 16 = place-small tables session p strands accepted in
         let q : Participant = participantAt session k in
-        let own : Own = ownOf shape sent received k in
-        let m : Message = participant.readBy (shape .n) q s in
+        let own : Own = ownOf tables k in
+        let m : Message = participant.readBy (tables .shape .n) q s in
         let asked =
-        three-yes 13 14 15 (messageFormed (shape .n) (q .me .0) (q .initiator .0) s) (participant-step.awaits q m) (allLower (m .news) (q .column))
-        (down-passes (shape .n) session k s h) in
+        three-yes 13 14 15 (messageFormed (tables .shape .n) (q .me .0) (q .initiator .0) s) (participant-step.awaits q m) (allLower (m .news) (q .column))
+        (down-passes (tables .shape .n) session k s h) in
         let next : Participant = participant-step.step own q m .state in
         let its : IsParticipant next
-        = participant-kept own k (its-own shape sent received session p strands accepted sixteen) q m (is .participants k small) (asked .2) in
+        = participant-kept own k (its-own tables session p strands accepted sixteen) q m (is .participants k small) (asked .2) in
         delivered-is k (session .machine) (set (session .participants) k next) few (is .machine)
         (length-set (session .participants) k next ∙ is .sixteen) (one-put k next small its)
 
-    up-is : held (shape .n) session k s ≡ Report → IsSession (deliverUp shape sent received session k s .session)
+    up-is : held (tables .shape .n) session k s ≡ Report → IsSession (deliverUp tables session k s .session)
     unfolding deliverUp
     up-is h =
-        let small : k < 16 = place-small shape sent received session p strands accepted in
+        let small : k < 16 = place-small tables session p strands accepted in
         let state : Initiator = session .machine in
-        let own : Own = ownOf shape sent received (initiatorOf session) in
-        let m : Message = initiator.readBy (shape .n) state s in
+        let own : Own = ownOf tables (initiatorOf session) in
+        let m : Message = initiator.readBy (tables .shape .n) state s in
         let asked =
-        three-yes 13 14 15 (messageFormed (shape .n) (state .me .0) (state .me .0) s) (initiator-step.awaits state m)
-        (allLower (m .news) (row (state .matrix) (initiator-step.senderOf m))) (report-passes (shape .n) session k s h) in
-        let sender : initiator-step.senderOf m < 16 = omega (arith, report-sender (shape .n) session k s h) in
+        three-yes 13 14 15 (messageFormed (tables .shape .n) (state .me .0) (state .me .0) s) (initiator-step.awaits state m)
+        (allLower (m .news) (row (state .matrix) (initiator-step.senderOf m))) (report-passes (tables .shape .n) session k s h) in
+        let sender : initiator-step.senderOf m < 16 = omega (arith, report-sender (tables .shape .n) session k s h) in
         delivered-is k (initiator-step.step own state m .state) (session .participants) few
-        (initiator-kept own (initiatorOf session) (initiator-own shape sent received session p strands accepted sixteen) state m (is .machine)
-        (asked .2) sender (rounds-few shape sent received session p strands accepted sixteen))
+        (initiator-kept own (initiatorOf session) (initiator-own tables session p strands accepted sixteen) state m (is .machine)
+        (asked .2) sender (rounds-few tables session p strands accepted sixteen))
         (is .sixteen) (is .participants)
 
-    by-held : (w : Waiting) → held (shape .n) session k s ≡ w → IsSession (deliver shape sent received session k s w .session)
+    by-held : (w : Waiting) → held (tables .shape .n) session k s ≡ w → IsSession (deliver tables session k s w .session)
     by-held Nothing e = is
     by-held Asking e = down-is (ap goesDown e)
     by-held Ending e = down-is (ap goesDown e)
@@ -213,10 +212,10 @@ module _ (shape : Shape) (sent received : List ℕ) (session : Session) (is : Is
 
 pub turn-is-session : TurnIsSession
 unfolding sessionAfter
-turn-is-session shape sent received session p strands sixteen is =
-    let next : Turned = turned shape sent received session p strands in
-    by-answer IsSession (turnQuestion shape sent received session p strands) session (withPosted next) is
+turn-is-session tables session p strands sixteen is =
+    let next : Turned = turned tables session p strands in
+    by-answer IsSession (turnQuestion tables session p strands) session (withPosted next) is
     (λ accepted.
     posted-is next
-    (by-held shape sent received session is p strands sixteen accepted
-    (held (shape .n) session (p .0 - 1) (waitingBytes (shape .n) session strands (p .0 - 1))) refl))
+    (by-held tables session is p strands sixteen accepted
+    (held (tables .shape .n) session (p .0 - 1) (waitingBytes (tables .shape .n) session strands (p .0 - 1))) refl))

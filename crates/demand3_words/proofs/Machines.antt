@@ -6,6 +6,7 @@ use Prim.Native.Nat.{ℕ, _+_, _*_, _-_, _<_}
 use native.Mathlib.Omega.{arith}
 use lib.ListN.{length}
 use lib.Dec.{eqb}
+use Rattle.lists.proofs.Pick.{pick-each}
 use Rattle.book.specs.declared.Count.{Count}
 use Rattle.book.specs.declared.Process.{Process}
 use Rattle.lists.proofs.Over.{length-tab}
@@ -13,7 +14,7 @@ use Rattle.matrix.specs.Matrix.{row, column, withRow, notKnownMatrix}
 use Rattle.matrix.specs.Entries.{patch, allLower}
 use Rattle.message.specs.declared.Message.{Message}
 use Rattle.machine.specs.Own.{Own, hasCheckpoint, sentRow, newestPermitted}
-use Rattle.machine.specs.Named.{countLimit}
+use Rattle.machine.specs.Named.{tallyLimit}
 use Rattle.machine.specs.Flags.{flag, someone, participants}
 use Rattle.machine_laws.specs.Own.{IsOwn}
 use Rattle.machine_laws.proofs.Checkpoints.{checkpoint-in, checkpoint-out}
@@ -30,8 +31,9 @@ use Rattle.initiator.specs.Begin.{wait, withoutWait, beginSearch, beginRestart,
 use Rattle.initiator.specs.Step.{senderOf, takeReport, stepBack, polled, poll, terminate, step}
 use Rattle.initiator.specs.Calls.{noInitiator}
 use Rattle.initiator_laws.proofs.Stepped.{step-cases}
+use Rattle.words.specs.Words.{matrixLength}
 use Rattle.word_laws.specs.Values.{AreCounts, IsParticipant, IsInitiator}
-use Rattle.demand3_words.proofs.Counters.{pick-each, unknown-row, unknown-matrix, zero-row, zero-matrix, row-counts, row-put, news-put}
+use Rattle.demand3_words.proofs.Counters.{unknown-row, unknown-matrix, zero-row, zero-matrix, row-counts, row-put, news-put}
 
 -- ---- a process's own checkpoints: sent counters of a book are below the mark
 
@@ -71,14 +73,14 @@ participant-kept own j is-own state m is lower =
 
 -- ---- the initiator begins
 
-without-wait-is : (n : ℕ) (me : Process) (purpose candidate : ℕ) (matrix : List Count) → AreCounts 256 matrix
+without-wait-is : (n : ℕ) (me : Process) (purpose candidate : ℕ) (matrix : List Count) → AreCounts matrixLength matrix
     → IsInitiator (withoutWait n me purpose candidate matrix)
 unfolding withoutWait
 without-wait-is n me purpose candidate matrix are =
     record { rounds = omega arith; awaited = length-tab 16 _; matrix = are; copy = are }
 
-wait-is : (state : Initiator) (awaited : List Bool) → state .rounds < countLimit → length awaited ≡ 16
-    → AreCounts 256 (state .matrix) → IsInitiator (wait state awaited)
+wait-is : (state : Initiator) (awaited : List Bool) → state .rounds < tallyLimit → length awaited ≡ 16
+    → AreCounts matrixLength (state .matrix) → IsInitiator (wait state awaited)
 unfolding wait
 wait-is state awaited few long are = record { rounds = omega arith; awaited = long; matrix = are; copy = are }
 
@@ -93,7 +95,7 @@ begin-is own me purpose is =
     let others : List Bool = participants n (me .0 - 1) in
     let matrix : List Count = withRow (notKnownMatrix n) (me .0 - 1) (sentRow own (own .count)) in
     let start : Initiator = withoutWait n me purpose (own .count) matrix in
-    let are : AreCounts 256 matrix
+    let are : AreCounts matrixLength matrix
     = row-put (notKnownMatrix n) (sentRow own (own .count)) (me .0 - 1) (unknown-matrix n) (newest-counts own (me .0 - 1) is) in
     pick-each (λ (s : InitiatorStep). IsInitiator (s .state)) (eqb purpose 2) (beginRestart n me purpose) (beginSearch own me purpose)
     (without-wait-is n me purpose 1 (notKnownMatrix n) (unknown-matrix n))
@@ -136,7 +138,7 @@ module _ (own : Own) (j : ℕ) (is-own : IsOwn own j) (state : Initiator) (m : M
         copy = taken-is .copy;
       }
 
-  back-few : state .rounds < countLimit → stepBack own taken .rounds < countLimit
+  back-few : state .rounds < tallyLimit → stepBack own taken .rounds < tallyLimit
   unfolding stepBack takeReport
   back-few few = few
 
@@ -144,7 +146,7 @@ module _ (own : Own) (j : ℕ) (is-own : IsOwn own j) (state : Initiator) (m : M
   unfolding polled
   polled-long = length-tab 16 _
 
-  pub initiator-kept : state .rounds < countLimit → IsInitiator (step own state m .state)
+  pub initiator-kept : state .rounds < tallyLimit → IsInitiator (step own state m .state)
   unfolding poll terminate
   initiator-kept few =
       let back : Initiator = stepBack own taken in

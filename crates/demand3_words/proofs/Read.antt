@@ -8,14 +8,16 @@ use native.Mathlib.Omega.{arith}
 use borrow.Author.Tests.{eq-eqb, ne-eqb}
 use lib.Dec.{eqb}
 use Rattle.lists.specs.Pick.{pick}
+use Rattle.lists.proofs.Over.{all-ext}
 use Rattle.machine.specs.Flags.{flag, someone}
-use Rattle.machine_laws.proofs.Newest.{all-ext}
 use Rattle.participant.specs.declared.Stage.{Stage}
 use Rattle.participant.specs.declared.Stage.the-variants.{Before, Searching, Ended}
 use Rattle.session.specs.declared.Session.{Session}
 use Rattle.session.specs.Workers.{initiatorOf, participantAt, isEnded, standsOn, hasEnded, waitsOn}
 use Rattle.words.specs.Words.{word}
+use Rattle.words.specs.Participant as participant-words
 use Rattle.words.specs.Participant.{stageWord}
+use Rattle.words.specs.Initiator as initiator-words
 use Rattle.words.specs.Initiator.{flagWord, flagIn}
 use Rattle.words.specs.Session.{machineStart, placeStart, sessionWords}
 use Rattle.word_laws.proofs.Initiators.{flag-back}
@@ -67,9 +69,9 @@ module _ (s : Session) where
 
     pub ended-read : (j : ℕ) → j < 16 → endedInWords initiator words j ≡ hasEnded s j
     ended-read j h =
-        let its : eqb (word words (machineStart + 3)) 1 ≡ s .machine .ended
+        let its : eqb (word words (machineStart + initiator-words.endedAt)) 1 ≡ s .machine .ended
         = ap (λ (v : ℕ). eqb v 1) (read-ended s) ∙ ended-flag (s .machine .ended) in
-        let other : eqb (word words (placeStart j + 4)) 2 ≡ isEnded (participantAt s j .stage)
+        let other : eqb (word words (placeStart j + participant-words.stageAt)) 2 ≡ isEnded (participantAt s j .stage)
         = ap (λ (v : ℕ). eqb v 2) (read-stage s j h) ∙ ended-stage (participantAt s j .stage) in
         λ i. pick (at-lead j i) (its i) (other i)
 

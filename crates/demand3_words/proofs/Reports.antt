@@ -7,13 +7,14 @@ use native.Mathlib.Omega.{arith}
 use borrow.Author.Tests.{eqb-true, eqb-false, ne-eqb}
 use lib.ListN.{length, take, drop}
 use lib.Dec.{eqb}
+use Rattle.book.specs.Lent.{lent}
 use Rattle.varint.specs.Sequence.{scan, numbersAt}
 use Rattle.book.specs.declared.Process.{Process}
 use Rattle.book.specs.Bounds.{mostProcesses}
 use Rattle.lists.specs.Over.{allTo}
+use Rattle.lists.proofs.Over.{all-ext}
 use Rattle.lists.specs.Pick.{pick}
 use Rattle.machine.specs.Flags.{flag, someone}
-use Rattle.machine_laws.proofs.Newest.{all-ext}
 use Rattle.participant.specs.Calls as participant
 use Rattle.participant_laws.proofs.Accepted.{Named}
 use Rattle.initiator.specs.Calls as initiator
@@ -89,9 +90,9 @@ module _ (shape sent received : List ℕ) (long : length shape ≡ shapeLength) 
     abbrev bytes : List ℕ
     bytes = waitingBytes (shapeIn shape .n) s (o .strands) k
 
-    module _ (accepted : turnQuestion (shapeIn shape) sent received s (asProcess p) (o .strands) ≡ 0) where
+    module _ (accepted : turnQuestion (lent (shapeIn shape) sent received) s (asProcess p) (o .strands) ≡ 0) where
       small : k < 16
-      small = place-small (shapeIn shape) sent received s (asProcess p) (o .strands) accepted
+      small = place-small (lent (shapeIn shape) sent received) s (asProcess p) (o .strands) accepted
 
       bytes-are : bytesOnStrand shape sent received initiator (handed o) k ≡ bytes
       unfolding strandBytes shapeIn
@@ -105,20 +106,20 @@ module _ (shape sent received : List ℕ) (long : length shape ≡ shapeLength) 
           all-ext 16 (λ q. not (awaitedInWords (handed o .session) q) || eqb q k) (λ q. not (flag (s .machine .awaited) q) || eqb q k)
           (λ q h. ap (λ (t : Bool). not t || eqb q k) (awaited-read s q h))
 
-      brings-is : bringsLastReport shape sent received initiator (handed o) p ≡ bringsLast (shapeIn shape) sent received o (asProcess p)
+      brings-is : bringsLastReport shape sent received initiator (handed o) p ≡ bringsLast (lent (shapeIn shape) sent received) o (asProcess p)
       brings-is =
           let from : eqb (senderIn (bytesOnStrand shape sent received initiator (handed o) k)) p ≡ isReport (held (shapeIn shape .n) s k bytes)
           = ap (λ (b : List ℕ). eqb (senderIn b) p) bytes-are
-          ∙ sent-up (shapeIn shape .n) s p bytes (names (shapeIn shape) sent received s (asProcess p) (o .strands) accepted)
-          (no-stray (shapeIn shape) sent received s (asProcess p) (o .strands) accepted) in
+          ∙ sent-up (shapeIn shape .n) s p bytes (names (lent (shapeIn shape) sent received) s (asProcess p) (o .strands) accepted)
+          (no-stray (lent (shapeIn shape) sent received) s (asProcess p) (o .strands) accepted) in
           λ i. from i && last-is i
 
-    begins-is : callBeginsWait shape sent received initiator (handed o) p ≡ waitBegins (shapeIn shape) sent received o (asProcess p)
+    begins-is : callBeginsWait shape sent received initiator (handed o) p ≡ waitBegins (lent (shapeIn shape) sent received) o (asProcess p)
     begins-is =
-        let question : ℕ = turnQuestion (shapeIn shape) sent received s (asProcess p) (o .strands) in
-        let next : Ongoing = afterTurn (shapeIn shape) sent received o (asProcess p) in
+        let question : ℕ = turnQuestion (lent (shapeIn shape) sent received) s (asProcess p) (o .strands) in
+        let next : Ongoing = afterTurn (lent (shapeIn shape) sent received) o (asProcess p) in
         both-same _ (eqb question 0) _
-        (bringsLast (shapeIn shape) sent received o (asProcess p) && someone (next .session .machine .awaited))
+        (bringsLast (lent (shapeIn shape) sent received) o (asProcess p) && someone (next .session .machine .awaited))
         (ap (λ (q : ℕ). eqb q 0) (answer-is shape sent received long o is p))
         (λ yes. λ i.
         brings-is (eqb-true question 0 yes) i
@@ -127,14 +128,14 @@ module _ (shape sent received : List ℕ) (long : length shape ≡ shapeLength) 
   -- ---- a list of calls
 
   pub begun-are : (initiator : ℕ) (turns : List ℕ) (o : Ongoing) → IsSession (o .session) → o .session .initiator .0 ≡ initiator
-      → waitsBegunBy shape sent received initiator (handed o) turns ≡ waitsBegun (shapeIn shape) sent received o (map asProcess turns)
+      → waitsBegunBy shape sent received initiator (handed o) turns ≡ waitsBegun (lent (shapeIn shape) sent received) o (map asProcess turns)
   unfolding waitsBegunBy waitsBegun
   begun-are initiator [] o is leads = refl
   begun-are initiator (p ∷ turns) o is leads =
-      let next : Ongoing = afterTurn (shapeIn shape) sent received o (asProcess p) in
+      let next : Ongoing = afterTurn (lent (shapeIn shape) sent received) o (asProcess p) in
       (λ i.
       pick (begins-is initiator o is leads p i) 1 0
       + waitsBegunBy shape sent received initiator (call-is shape sent received long o is p i) turns)
-      ∙ ap (λ (v : ℕ). pick (waitBegins (shapeIn shape) sent received o (asProcess p)) 1 0 + v)
+      ∙ ap (λ (v : ℕ). pick (waitBegins (lent (shapeIn shape) sent received) o (asProcess p)) 1 0 + v)
       (begun-are initiator turns next (next-is shape sent received long o is p)
       (ap (λ (q : Process). q .0) (same-lead shape sent received long o is p) ∙ leads))

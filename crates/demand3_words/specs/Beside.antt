@@ -2,7 +2,8 @@
 -- calls inside do.
 use mathlib.Core.Path.{_≡_}
 use lib.ListN.{length}
-use Rattle.words.specs.Words.{shapeLength, setLength, sessionLength}
+use Rattle.words.specs.Words.{shapeLength, setLength}
+use Rattle.words.specs.Session.{sessionLength}
 use Rattle.demand3.specs.Statement.{Beginning, IsAccepted}
 use Rattle.demand3_words.specs.Statement.{Lent, AllAccept}
 

@@ -8,6 +8,7 @@ use mathlib.Core.List.{List}
 use mathlib.Core.Logic.{_⊎_}
 use Prim.Native.Nat.{ℕ, _+_, _-_, _*_, _≤_, _<_}
 use lib.ListN.{length}
+use Rattle.book.specs.Lent.{lent}
 use Rattle.book.specs.Bounds.{mostProcesses}
 use Rattle.line_theory.specs.Sets.{View, IsSet, Consistent}
 use Rattle.line_theory.specs.OfTables.{viewOf}
@@ -75,7 +76,7 @@ module _ (b : Lent) where
 
   -- the book that was read, as K 2.2 sees it
   abbrev pub viewGiven : View
-  viewGiven = viewOf (shapeIn shapeGiven) sentGiven receivedGiven
+  viewGiven = viewOf (lent (shapeIn shapeGiven) sentGiven receivedGiven)
 
 -- each call returns 0
 pub record AllAccept (b : Lent) : Type 0 where

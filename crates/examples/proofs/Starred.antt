@@ -3,11 +3,11 @@
 use mathlib.Core.Path.{refl}
 use mathlib.Core.List.{[], _∷_}
 use native.Mathlib.Omega.{arith}
-use Rattle.book.specs.Read.{shapeRead, sentRead, receivedRead}
+use Rattle.book.specs.Read.{tablesRead}
 use Rattle.shown.specs.Shown as shown
 use Rattle.restart.specs.Plan as plan
 use Rattle.restart.specs.Calls as calls
-use Rattle.session_examples.specs.Books.{lent, setOf, k1, k6}
+use Rattle.session_examples.specs.Books.{blank, setOf, k1, k6}
 use Rattle.session_examples.proofs.Computing.{computing}
 use Rattle.examples.specs.Starred.{Starred, NotConsistent, MovedTo, holds, _also_, none}
 use Rattle.examples.proofs.Pairs.{noOther, only-answer}
@@ -17,7 +17,7 @@ not-consistent : holds (NotConsistent k1 (2 ∷ 2 ∷ 2 ∷ []) 1 2)
 unfolding computing noOther
 not-consistent = (
   (refl, record { first = (omega arith, omega arith); second = (omega arith, omega arith); fault = refl }),
-  only-answer (shapeRead k1 lent lent) (sentRead k1 lent lent) (receivedRead k1 lent lent) (setOf (2 ∷ 2 ∷ 2 ∷ [])) 0 1 refl refl refl,
+  only-answer (tablesRead k1 blank blank) (setOf (2 ∷ 2 ∷ 2 ∷ [])) 0 1 refl refl refl,
 )
 
 k6-moved : holds (MovedTo k6 1 (3 ∷ 4 ∷ 1 ∷ []))

@@ -4,6 +4,7 @@ use mathlib.Core.Path.{_≡_}
 use mathlib.Core.List.{List, [], _∷_}
 use Prim.Native.Nat.{ℕ, _-_}
 use lib.ListN.{length}
+use Rattle.book.specs.Lent.{Tables}
 use Rattle.varint.specs.declared.Numeral.the-variants as numeral
 use Rattle.varint.specs.Number.{encode, readNumber}
 use Rattle.book.specs.declared.Shape.{Shape}
@@ -15,13 +16,13 @@ use Rattle.book.specs.Tables.{padded}
 use Rattle.book.specs.View.{S, R}
 use Rattle.book.specs.InTurn.{answerTo}
 use Rattle.book.specs.Check.{tablesQuestion}
-use Rattle.book.specs.Read.{noShape, readQuestion, shapeRead, sentRead, receivedRead}
+use Rattle.book.specs.Read.{noShape, readQuestion, shapeRead, sentRead, receivedRead, tablesRead}
 use Rattle.consistency.specs.declared.SetAnswer.{SetAnswer}
 use Rattle.consistency.specs.declared.SetAnswer.the-variants as test
 use Rattle.consistency.specs.Set.{Tested}
 use Rattle.finder.specs.Line.{lineFound, passedFound}
 use Rattle.restart.specs.Calls.{moveQuestion, shapeMoved}
-use Rattle.session_examples.specs.Books.{lent, setOf, k1, k6, laterCounter, largestCounter}
+use Rattle.session_examples.specs.Books.{blank, setOf, k1, k6, laterCounter, largestCounter}
 use Rattle.session_examples.specs.Outcome.{searchedIn, endedOn}
 
 -- ---- what can be claimed
@@ -50,27 +51,23 @@ pub data Example : Type 0 where
 
 -- what a read of a book answers, with the shape beside it
 abbrev pub answered : List ℕ → Answer × Shape
-answered book = (answerTo (readQuestion book lent lent), shapeRead book lent lent)
+answered book = (answerTo (readQuestion book blank blank), shapeRead book blank blank)
 
 -- what holds of an answer to a test of a set, in the tables of a book
 abbrev pub answers : List ℕ → List ℕ → SetAnswer → Type 0
-answers book set answer = Tested (shapeRead book lent lent) (sentRead book lent lent) (receivedRead book lent lent) (setOf set) answer
+answers book set answer = Tested (tablesRead book blank blank) (setOf set) answer
 
 -- what a search for the line answers in the tables of a book, with the line and T beside it
 abbrev pub found : List ℕ → Answer × List Checkpoint × ℕ
 found book =
-    let shape : Shape = shapeRead book lent lent in
-    let sent : List ℕ = sentRead book lent lent in
-    let received : List ℕ = receivedRead book lent lent in
-    (answerTo (tablesQuestion shape sent received), lineFound shape sent received, passedFound shape sent received)
+    let tables : Tables = tablesRead book blank blank in
+    (answerTo (tablesQuestion tables), lineFound tables, passedFound tables)
 
 -- what a move answers in the tables of a book, with the counts beside it
 abbrev pub movedIn : List ℕ → ℕ → Answer × List ℕ
 movedIn book purpose =
-    let shape : Shape = shapeRead book lent lent in
-    let sent : List ℕ = sentRead book lent lent in
-    let received : List ℕ = receivedRead book lent lent in
-    (answerTo (moveQuestion shape sent received purpose), shapeMoved shape sent received purpose .counts)
+    let tables : Tables = tablesRead book blank blank in
+    (answerTo (moveQuestion tables purpose), shapeMoved tables purpose .counts)
 
 abbrev pub holds : Example → Type 0
 holds (HasBytes n bytes) = encode n ≡ bytes
@@ -78,8 +75,8 @@ holds (IsNumber bytes n) = readNumber groups largest bytes 0 ≡ numeral.Number 
 holds (NoNumber bytes) = readNumber groups largest bytes 0 ≡ numeral.Refused
 holds (RefusedBy book question) = answered book ≡ (answer.Refused question, noShape)
 holds (AcceptedAs book n counts) = answered book ≡ (answer.Accepted, record { n = n; counts = padded mostProcesses counts })
-holds (HasSent book j r p v) = S (shapeRead book lent lent) (sentRead book lent lent) (j - 1) r (p - 1) ≡ v
-holds (HasReceived book j r p v) = R (shapeRead book lent lent) (receivedRead book lent lent) (j - 1) r (p - 1) ≡ v
+holds (HasSent book j r p v) = S (shapeRead book blank blank) (sentRead book blank blank) (j - 1) r (p - 1) ≡ v
+holds (HasReceived book j r p v) = R (shapeRead book blank blank) (receivedRead book blank blank) (j - 1) r (p - 1) ≡ v
 holds (NotConsistent book set j p) =
     let shown : SetAnswer = test.AtFault (record { 0 = j }) (record { 0 = p }) in
     answers book set shown × ((answer : SetAnswer) → answers book set answer → answer ≡ shown)

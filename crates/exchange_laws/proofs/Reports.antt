@@ -8,7 +8,7 @@ use borrow.Author.Tests.{eq-eqb, eqb-false}
 use lib.Dec.{eqb}
 use Rattle.book.specs.declared.Count.{Count}
 use Rattle.book.specs.Bounds.{mark}
-use Rattle.lists.proofs.Tests.{and-both, both-and, none-of-or}
+use Rattle.lists.proofs.Tests.{and-both, both-and, or-none}
 use Rattle.consistency.specs.Known.{counters}
 use Rattle.matrix.specs.Matrix.{row, column, notKnownRow}
 use Rattle.matrix.specs.Entries.{diff, patch, same}
@@ -111,7 +111,7 @@ module _ (own : Own) (sender : Participant) (m : Message) (receiver : Initiator)
 
   searches : isSearch (sender .purpose) ≡ true
   searches =
-      let other : eqb (m .head .purpose) 2 ≡ false = none-of-or (eqb (m .head .purpose) 2) (isTermination m) going in
+      let other : eqb (m .head .purpose) 2 ≡ false = or-none (eqb (m .head .purpose) 2) (isTermination m) going .0 in
       both-and (isPurpose (sender .purpose)) (not (eqb (sender .purpose) 2)) (accepts .purpose)
       (ap not (subst (λ (v : ℕ). eqb v 2 ≡ false) (same-purpose own sender m accepts) other))
 

@@ -7,8 +7,10 @@ use native.Mathlib.Decide.{ℕ-discrete}
 use native.Mathlib.Omega.{arith}
 use lib.ListN.{length, getD}
 use lib.Dec.{leb}
+use Rattle.book.specs.Lent.{lent}
 use Rattle.book.specs.declared.Checkpoint.{Checkpoint}
 use Rattle.book.specs.declared.TableRows.{TableRows}
+use Rattle.book.specs.Accepted.{AcceptedRows}
 use Rattle.book.specs.View.{firstRow, counterAt}
 use Rattle.book.proofs.Sums.{row-within}
 use Rattle.book.proofs.Starts.{placed-first}
@@ -16,20 +18,21 @@ use Rattle.lists.specs.Over.{allTo}
 use Rattle.line_theory.specs.Sets.{View, receivedMore}
 use Rattle.line_theory.specs.Search.{permitted, sentTo}
 use Rattle.line_theory.specs.OfTables.{viewOf}
+use Rattle.line_theory.proofs.Accepted.{accepted-size, accepted-lengths, rows-placed}
 use Rattle.consistency.specs.Set.{chosen}
-use Rattle.consistency.specs.Given.{SetGiven}
+use Rattle.consistency.specs.Given.{AllNamed}
 use Rattle.finder.specs.Steps.{Named, SameSet, rowOf, setAt, byRow, RowsGiven, mustStepBack, SteppedBack}
 
 -- ---- where a checkpoint lies
 
 -- the set that is given, and in another way
-pub given-named : {rows : TableRows} {sent received : List ℕ} {s : List Checkpoint} (c : ℕ → ℕ) → SetGiven rows sent received s
-    → SameSet (rows .shape .n) c (chosen s) → Named rows c
-given-named c given same = record {
-  placed = given .in-sent .placed;
-  most = given .in-sent .most;
-  some = λ j k. rw (same j k) (given .is-set .some j k);
-  among = λ j k. rw (same j k) (given .is-set .among j k);
+pub given-named : {rows : TableRows} {sent received : List ℕ} (s : List Checkpoint) (c : ℕ → ℕ) → AcceptedRows rows sent received
+    → AllNamed (rows .shape) s → SameSet (rows .shape .n) c (chosen s) → Named rows c
+given-named s c given named same = record {
+  placed = rows-placed given;
+  most = accepted-size (given .accepted) .1;
+  some = λ j k. rw (same j k) (named j k .0);
+  among = λ j k. rw (same j k) (named j k .1);
 }
 
 module _ {rows : TableRows} {c : ℕ → ℕ} (set : Named rows c) (j : ℕ) (there : j < rows .shape .n) where
@@ -49,12 +52,12 @@ counter-by-row : (counts table at : List ℕ) (j p : ℕ) → 1 ≤ setAt counts
     → counterAt counts table j (setAt counts at j) p ≡ getD table (rowOf at j * 16 + p) 0
 counter-by-row counts table at j p h = ap (λ (row : ℕ). getD table (row * 16 + p) 0) (row-back counts at j h)
 
-pub rows-given : {rows : TableRows} {sent received : List ℕ} {s : List Checkpoint} (at : List ℕ) → SetGiven rows sent received s
+pub rows-given : {rows : TableRows} {sent received : List ℕ} (at : List ℕ) → AcceptedRows rows sent received
     → Named rows (setAt (rows .shape .counts) at) → RowsGiven (rows .shape .n) sent received at
 rows-given {rows} at given set = record {
   most = set .most;
-  in-sent = given .in-sent .long;
-  in-received = given .in-received .long;
+  in-sent = accepted-lengths (given .accepted) .0;
+  in-received = accepted-lengths (given .accepted) .1;
   rows = λ j k. omega (arith, row-small set j k, row-back (rows .shape .counts) at j (set .some j k));
 }
 
@@ -72,19 +75,19 @@ permitted-ext (suc n) row row′ known known′ e f =
 module _ {rows : TableRows} (sent received at : List ℕ) (set : Named rows (setAt (rows .shape .counts) at)) where
   received-by-row : (j p : ℕ) → j < rows .shape .n → p < rows .shape .n
       → receivedMore (byRow (rows .shape .n) sent received) (rowOf at) j p
-      ≡ receivedMore (viewOf (rows .shape) sent received) (setAt (rows .shape .counts) at) j p
+      ≡ receivedMore (viewOf (lent (rows .shape) sent received)) (setAt (rows .shape .counts) at) j p
   received-by-row j p k l =
       let counts = rows .shape .counts in
       rw (counter-by-row counts sent at p j (set .some p l), counter-by-row counts received at j p (set .some j k))
 
   pub must-by-row : (j : ℕ) → j < rows .shape .n
       → mustStepBack (byRow (rows .shape .n) sent received) (rowOf at) j
-      ≡ mustStepBack (viewOf (rows .shape) sent received) (setAt (rows .shape .counts) at) j
+      ≡ mustStepBack (viewOf (lent (rows .shape) sent received)) (setAt (rows .shape .counts) at) j
   must-by-row j k =
       let counts = rows .shape .counts in
       let n = rows .shape .n in
       let b : View = byRow n sent received in
-      let v : View = viewOf (rows .shape) sent received in
+      let v : View = viewOf (lent (rows .shape) sent received) in
       let c : ℕ → ℕ = setAt counts at in
       ap not (permitted-ext n (b .R j (rowOf at j)) (v .R j (c j)) (sentTo b (rowOf at) j) (sentTo v c j)
       (λ p l. sym (counter-by-row counts received at j p (set .some j k)))
@@ -109,7 +112,7 @@ module _ {rows : TableRows} (sent received at at′ : List ℕ) (set : Named row
     among = λ p k. elim (ℕ-discrete p j) [ yes e ↦ rw e (omega (arith, back-here, set .among j there)) | no e ↦ omega (arith, back-other p e, set .among p k) ];
   }
 
-  pub stepped-by-row : SteppedBack (viewOf (rows .shape) sent received) j (setAt (rows .shape .counts) at) (setAt (rows .shape .counts) at′) flags flags′
+  pub stepped-by-row : SteppedBack (viewOf (lent (rows .shape) sent received)) j (setAt (rows .shape .counts) at) (setAt (rows .shape .counts) at′) flags flags′
   stepped-by-row = record {
     back = back-here;
     others = back-other;

@@ -4,11 +4,11 @@ use mathlib.Core.List.{List}
 use Prim.Native.Nat.{ℕ, _≤_, _<_}
 use native.Mathlib.Decide.{decLt}
 use native.Mathlib.Omega.{arith}
-use lib.ListN.{length, getD, length-replicate, getD-replicate, List·getD-eq-default}
-use lib.Seq.{ext-getD}
+use lib.ListN.{length, List·getD-eq-default}
 use Rattle.book.specs.declared.Checkpoint.{Checkpoint}
 use Rattle.lists.specs.Over.{tab}
-use Rattle.lists.proofs.Over.{length-tab, getD-tab}
+use Rattle.lists.proofs.Over.{length-tab, getD-tab, tab-is, replicate-at}
+use Rattle.book.proofs.Values.{checkpoint, checkpoint-of}
 use Rattle.consistency.specs.Set.{chosen}
 use Rattle.finder.specs.Line.{checkpoints, noLine}
 
@@ -16,11 +16,7 @@ use Rattle.finder.specs.Line.{checkpoints, noLine}
 pub checkpoints-are : (set : List Checkpoint) (c : ℕ → ℕ) → length set ≡ 16 → ((j : ℕ) → j < 16 → chosen set j ≡ c j) → set ≡ checkpoints c
 unfolding checkpoints
 checkpoints-are set c long same =
-    let f : ℕ → Checkpoint = λ j. record { 0 = c j } in
-    ext-getD (record { 0 = 0 }) set (tab 16 f) (long ∙ sym (length-tab 16 f)) (λ j i. at j (omega arith) ∙ sym (getD-tab 16 f j (record { 0 = 0 }) (omega arith)))
-  where
-    at : (j : ℕ) → j < 16 → _≡_ {A = Checkpoint} (getD set j (record { 0 = 0 })) (record { 0 = c j })
-    at j i = ap {B = Checkpoint} (λ (k : ℕ). record { 0 = k }) (same j i)
+    tab-is (checkpoint 0) 16 (λ j. checkpoint (c j)) set long (λ j small. checkpoint-of (same j small))
 
 -- and back
 pub chosen-there : (c : ℕ → ℕ) (j : ℕ) → j < 16 → chosen (checkpoints c) j ≡ c j
@@ -31,12 +27,7 @@ chosen-there c j small =
 
 -- no checkpoints
 pub chosen-none : (j : ℕ) → chosen noLine j ≡ 0
-chosen-none j =
-    let zero : Checkpoint = record { 0 = 0 } in
-    elim (decLt j 16) [
-      | yes k ↦ ap (λ (r : Checkpoint). r .0) (getD-replicate 16 j zero zero k)
-      | no k ↦ ap (λ (r : Checkpoint). r .0) (List·getD-eq-default noLine zero {n = j} (omega (arith, length-replicate 16 zero)))
-    ]
+chosen-none j = ap (λ (r : Checkpoint). r .0) (replicate-at 16 (checkpoint 0) j)
 
 -- as functions, where the numbers are zero from the sixteenth on
 pub chosen-of : (c : ℕ → ℕ) → ((j : ℕ) → 16 ≤ j → c j ≡ 0) → chosen (checkpoints c) ≡ c

@@ -4,7 +4,7 @@ use mathlib.Core.Path.{_≡_}
 use mathlib.Core.List.{List}
 use Prim.Native.Nat.{ℕ}
 use lib.ListN.{replicate}
-use Rattle.book.specs.declared.Shape.{Shape}
+use Rattle.book.specs.Lent.{Tables}
 use Rattle.book.specs.declared.Checkpoint.{Checkpoint}
 use Rattle.book.specs.Bounds.{mostProcesses}
 use Rattle.book.specs.InTurn.{unlessRefused}
@@ -23,13 +23,11 @@ checkpoints c = tab {A = Checkpoint} mostProcesses (λ j. record { 0 = c j })
 abbrev pub noLine : List Checkpoint
 noLine = replicate mostProcesses (record { 0 = 0 })
 
-unfoldable pub lineFound : Shape → List ℕ → List ℕ → List Checkpoint
-lineFound shape sent received =
-    unlessRefused (tablesQuestion shape sent received) noLine (checkpoints (line (viewOf shape sent received)))
+unfoldable pub lineFound : Tables → List Checkpoint
+lineFound tables = unlessRefused (tablesQuestion tables) noLine (checkpoints (line (viewOf tables)))
 
-unfoldable pub passedFound : Shape → List ℕ → List ℕ → ℕ
-passedFound shape sent received =
-    unlessRefused (tablesQuestion shape sent received) 0 (passed (viewOf shape sent received))
+unfoldable pub passedFound : Tables → ℕ
+passedFound tables = unlessRefused (tablesQuestion tables) 0 (passed (viewOf tables))
 
 -- the line of a book, cut to the set that a search starts from, and how far it is from that set
 abbrev pub IsLineOf : View → Line → Type 0

@@ -7,13 +7,15 @@ use book::TableRows;
 ghost use mathlib.Core.Path.{_≡_};
 ghost use Prim.Native.Nat.{_≤_, _<_};
 ghost use lib.ListN.{length};
+ghost use Rattle.book.specs.Lent.{lent};
 ghost use Rattle.book.specs.View.{count};
 ghost use Rattle.book.specs.InTurn.{answerTo};
 ghost use Rattle.book.specs.Check.{tablesQuestion};
+ghost use Rattle.book.specs.Accepted.{AcceptedRows};
 ghost use Rattle.line_theory.specs.Sets.{cut};
 ghost use Rattle.line_theory.specs.OfTables.{viewOf};
 ghost use Rattle.consistency.specs.Set.{chosen};
-ghost use Rattle.consistency.specs.Given.{SetGiven};
+ghost use Rattle.consistency.specs.Given.{AllNamed};
 ghost use Rattle.finder.specs.Line.{checkpoints, lineFound, passedFound, IsLineOf};
 ghost use Rattle.finder.specs.Steps.{AbsentZero, Named, SameSet, setAt, rowOf, byRow, RowsGiven, ForSixteen, mustStepBack, flagged, AreFlags, FlaggedBeside, SteppedBack, IsFirstFlagged};
 
@@ -179,9 +181,9 @@ pub fn find_from(
     received: &[Counter],
     set: [Checkpoint; 16],
 ) -> Line
-    requires { ⌜ SetGiven rows (now sent) (now received) set ⌝ }
+    requires { ⌜ AcceptedRows rows (now sent) (now received) × AllNamed (rows .shape) set ⌝ }
     requires { ⌜ AbsentZero rows set ⌝ }
-    ensures { λ found. ⌜ IsLineOf (cut (viewOf (rows .shape) (now (sent .entry)) (now (received .entry))) (chosen set)) found ⌝ }
+    ensures { λ found. ⌜ IsLineOf (cut (viewOf (lent (rows .shape) (now (sent .entry)) (now (received .entry)))) (chosen set)) found ⌝ }
 {
     let shape = rows.shape;
     let n = shape.n;
@@ -214,9 +216,9 @@ pub fn newest_set(shape: Shape) -> [Checkpoint; 16]
 
 // The line of the tables, and T. The tables' questions come first.
 pub fn find_line(shape: Shape, sent: &[Counter], received: &[Counter]) -> FoundLine
-    ensures { λ found. ⌜ found .answer ≡ answerTo (tablesQuestion shape (now (sent .entry)) (now (received .entry))) ⌝ }
-    ensures { λ found. ⌜ found .line ≡ lineFound shape (now (sent .entry)) (now (received .entry)) ⌝ }
-    ensures { λ found. ⌜ found .passed ≡ passedFound shape (now (sent .entry)) (now (received .entry)) ⌝ }
+    ensures { λ found. ⌜ found .answer ≡ answerTo (tablesQuestion (lent shape (now (sent .entry)) (now (received .entry)))) ⌝ }
+    ensures { λ found. ⌜ found .line ≡ lineFound (lent shape (now (sent .entry)) (now (received .entry))) ⌝ }
+    ensures { λ found. ⌜ found .passed ≡ passedFound (lent shape (now (sent .entry)) (now (received .entry))) ⌝ }
 {
     let question = tables::question(shape, sent, received);
     if question != 0 {

@@ -6,8 +6,8 @@ use Prim.Native.Nat.{ℕ, zero, suc, _-_, _≤_}
 use native.Mathlib.Omega.{arith}
 use lib.ListN.{length, getD}
 use lib.Dec.{eqb}
+use Rattle.book.specs.Lent.{Tables, lent}
 use Rattle.book.specs.declared.Process.{Process}
-use Rattle.book.specs.declared.Shape.{Shape}
 use Rattle.book.specs.declared.TableRows.{TableRows}
 use Rattle.book.specs.InTurn.{_then_, ask, answerTo}
 use Rattle.book.specs.Check.{tablesQuestion}
@@ -59,10 +59,10 @@ sender-there n me initiator s m formed e =
 
 -- ---- the initiator begins
 
-pub begin-on : (shape : Shape) (sent received : List ℕ) (me : Process) (purpose : ℕ) (rows : TableRows) (next : InitiatorStep)
-    → rows .shape ≡ shape → next ≡ begin (ownOf (rows .shape) sent received (me .0 - 1)) me purpose
-    → next ≡ beginOn shape sent received me purpose
-begin-on shape sent received me purpose rows next e f = f ∙ (λ i. begin (ownOf (e i) sent received (me .0 - 1)) me purpose)
+pub begin-on : (tables : Tables) (me : Process) (purpose : ℕ) (rows : TableRows) (next : InitiatorStep)
+    → rows .shape ≡ tables .shape → next ≡ begin (ownOf (lent (rows .shape) (tables .sent) (tables .received)) (me .0 - 1)) me purpose
+    → next ≡ beginOn tables me purpose
+begin-on tables me purpose rows next e f = f ∙ (λ i. begin (ownOf (lent (e i) (tables .sent) (tables .received)) (me .0 - 1)) me purpose)
 
 -- questions 10 and 11
 abbrev pub namesQuestion : ℕ → Process → ℕ → ℕ
@@ -78,24 +78,23 @@ pub told-none : (none : Initiator) (found : ℕ) (a : InitiatorAnswer) → none 
 told-none none found a e told = (told .0, (told .1 .0 ∙ e, told .1 .1))
 
 -- the two are one question of the call
-pub answer-begun : (shape : Shape) (sent received : List ℕ) (me : Process) (purpose : ℕ) (out : List ℕ) (next : InitiatorStep) (a : InitiatorAnswer)
-    (bytes : List ℕ) → next ≡ beginOn shape sent received me purpose
-    → Answered (tablesQuestion shape sent received) (namesQuestion (shape .n) me purpose) 0 noInitiator (next .state) (next .outgoing) out (a .answer)
+pub answer-begun : (tables : Tables) (me : Process) (purpose : ℕ) (out : List ℕ) (next : InitiatorStep) (a : InitiatorAnswer)
+    (bytes : List ℕ) → next ≡ beginOn tables me purpose
+    → Answered (tablesQuestion tables) (namesQuestion (tables .shape .n) me purpose) 0 noInitiator (next .state) (next .outgoing) out (a .answer)
     (a .state)
     (a .lengths)
-    bytes
-    → (a .answer ≡ answerTo (beginQuestion shape sent received me purpose out))
-    × ((a .state ≡ stateBegun shape sent received me purpose out)
-    × ((a .lengths ≡ lengthsBegun shape sent received me purpose out) × (bytes ≡ bytesBegun shape sent received me purpose out)))
+    bytes → (a .answer ≡ answerTo (beginQuestion tables me purpose out))
+    × ((a .state ≡ stateBegun tables me purpose out)
+    × ((a .lengths ≡ lengthsBegun tables me purpose out) × (bytes ≡ bytesBegun tables me purpose out)))
 unfolding beginQuestion stateBegun lengthsBegun bytesBegun
-answer-begun shape sent received me purpose out next a bytes e answered =
-    let first = beginOn shape sent received me purpose in
-    let tables : ℕ = tablesQuestion shape sent received in
-    let names : ℕ = namesQuestion (shape .n) me purpose in
-    let Begun : InitiatorStep → Type 0 = λ t. Answered tables names 0 noInitiator (t .state) (t .outgoing) out (a .answer) (a .state) (a .lengths) bytes in
+answer-begun tables me purpose out next a bytes e answered =
+    let first = beginOn tables me purpose in
+    let of-tables : ℕ = tablesQuestion tables in
+    let names : ℕ = namesQuestion (tables .shape .n) me purpose in
+    let Begun : InitiatorStep → Type 0 = λ t. Answered of-tables names 0 noInitiator (t .state) (t .outgoing) out (a .answer) (a .state) (a .lengths) bytes in
     let with-first : Begun first = subst Begun e answered in
     subst (λ (k : ℕ). Returned k noInitiator (first .state) (first .outgoing) out (a .answer) (a .state) (a .lengths) bytes)
-    (ap (λ (k : ℕ). tables then λ _. k) (then-assoc (ask 10 (isNamed (shape .n) (me .0))) (λ _. ask 11 (isPurpose purpose)) _))
+    (ap (λ (k : ℕ). of-tables then λ _. k) (then-assoc (ask 10 (isNamed (tables .shape .n) (me .0))) (λ _. ask 11 (isPurpose purpose)) _))
     with-first
 
 -- ---- the initiator receives a message
@@ -135,15 +134,15 @@ module _ (n : ℕ) (state : Initiator) (s : List ℕ) where
       ∙ sym (then-passed (ask 14 formed) (λ _. awaitedQuestion (readBy n state s)) (ask-yes 14 formed h))
 
 -- the step, on the rows of the shape and the message that was read
-pub step-on : (shape : Shape) (sent received : List ℕ) (state : Initiator) (s : List ℕ) (rows : TableRows) (m : Message) (next : InitiatorStep)
-    → rows .shape ≡ shape → m ≡ readBy (shape .n) state s → next ≡ step (ownOf (rows .shape) sent received (state .me .0 - 1)) state m
-    → next ≡ stepOn shape sent received state s
-step-on shape sent received state s rows m next e f g = g ∙ (λ i. step (ownOf (e i) sent received (state .me .0 - 1)) state (f i))
+pub step-on : (tables : Tables) (state : Initiator) (s : List ℕ) (rows : TableRows) (m : Message) (next : InitiatorStep)
+    → rows .shape ≡ tables .shape → m ≡ readBy (tables .shape .n) state s → next ≡ step (ownOf (lent (rows .shape) (tables .sent) (tables .received)) (state .me .0 - 1)) state m
+    → next ≡ stepOn tables state s
+step-on tables state s rows m next e f g = g ∙ (λ i. step (ownOf (lent (e i) (tables .sent) (tables .received)) (state .me .0 - 1)) state (f i))
 
-pub answer-received : (shape : Shape) (sent received : List ℕ) (state : Initiator) (s out : List ℕ) (next : InitiatorStep) (a : InitiatorAnswer)
-    (bytes : List ℕ) → next ≡ stepOn shape sent received state s
-    → Answered (tablesQuestion shape sent received) (stateQuestion (shape .n) (ownOfState shape sent received state) state)
-    (messageQuestion (shape .n) state s)
+pub answer-received : (tables : Tables) (state : Initiator) (s out : List ℕ) (next : InitiatorStep) (a : InitiatorAnswer)
+    (bytes : List ℕ) → next ≡ stepOn tables state s
+    → Answered (tablesQuestion tables) (stateQuestion (tables .shape .n) (ownOfState tables state) state)
+    (messageQuestion (tables .shape .n) state s)
     state
     (next .state)
     (next .outgoing)
@@ -151,16 +150,15 @@ pub answer-received : (shape : Shape) (sent received : List ℕ) (state : Initia
     (a .answer)
     (a .state)
     (a .lengths)
-    bytes
-    → (a .answer ≡ answerTo (receiveQuestion shape sent received state s out))
-    × ((a .state ≡ stateAfter shape sent received state s out)
-    × ((a .lengths ≡ lengthsAfter shape sent received state s out) × (bytes ≡ bytesAfter shape sent received state s out)))
+    bytes → (a .answer ≡ answerTo (receiveQuestion tables state s out))
+    × ((a .state ≡ stateAfter tables state s out)
+    × ((a .lengths ≡ lengthsAfter tables state s out) × (bytes ≡ bytesAfter tables state s out)))
 unfolding receiveQuestion stateAfter lengthsAfter bytesAfter
-answer-received shape sent received state s out next a bytes e answered =
+answer-received tables state s out next a bytes e answered =
     subst
     (λ (t : InitiatorStep).
-    Answered (tablesQuestion shape sent received) (stateQuestion (shape .n) (ownOfState shape sent received state) state)
-    (messageQuestion (shape .n) state s)
+    Answered (tablesQuestion tables) (stateQuestion (tables .shape .n) (ownOfState tables state) state)
+    (messageQuestion (tables .shape .n) state s)
     state
     (t .state)
     (t .outgoing)

@@ -12,7 +12,7 @@ use Rattle.matrix.specs.Matrix.{row, column}
 use Rattle.matrix.specs.Entries.{same}
 use Rattle.matrix.specs.Whole.{allNoneAbove}
 use Rattle.machine.specs.Own.{Own, hasCheckpoint, sentRow, newestPermitted}
-use Rattle.machine.specs.Named.{countLimit}
+use Rattle.machine.specs.Named.{tallyLimit}
 use Rattle.machine.specs.Flags.{someone}
 use Rattle.initiator.specs.declared.Initiator.{Initiator}
 use Rattle.initiator.specs.Fits.{keptMatrix, searchFits, restartFits, stageFits, entriesFit, waitFits, fits}
@@ -105,10 +105,10 @@ module _ (own : Own) (state : Initiator) where
         let stage = and-both (entriesFit state) after-entries entries .1 in
         and-both (stageFits own state) (waitFits state) stage .1
 
-    pub fitting-rounds : state .rounds < countLimit
+    pub fitting-rounds : state .rounds < tallyLimit
     unfolding waitFits
     fitting-rounds =
-        let room : Bool = ltb (state .rounds) countLimit in
+        let room : Bool = ltb (state .rounds) tallyLimit in
         let someone-waited : Bool = state .ended || someone (state .awaited) in
         let flags = and-both (allNoneAbove (state .matrix) (state .copy)) (someone-waited && room) waits .1 in
-        ltb-true (state .rounds) countLimit (and-both someone-waited room flags .1)
+        ltb-true (state .rounds) tallyLimit (and-both someone-waited room flags .1)

@@ -7,11 +7,12 @@ use Rattle.book.specs.declared.Checkpoint.{Checkpoint}
 use Rattle.book.specs.declared.Count.{Count}
 use Rattle.book.specs.declared.Process.{Process}
 use Rattle.lists.specs.Pick.{pick}
+use Rattle.lists.proofs.Pick.{pick-yes, pick-no}
 use Rattle.matrix.specs.Matrix.{column, withRow, notKnownMatrix}
 use Rattle.matrix.specs.Whole.{invitations}
 use Rattle.message.specs.declared.Message.{Message}
 use Rattle.machine.specs.Own.{Own, sentRow, newestPermitted}
-use Rattle.machine.specs.Named.{countLimit}
+use Rattle.machine.specs.Named.{tallyLimit}
 use Rattle.machine.specs.Sends.{invitationHead}
 use Rattle.machine.specs.Flags.{someone, participants}
 use Rattle.initiator.specs.declared.Initiator.{Initiator}
@@ -74,17 +75,11 @@ taken-me state m taken e = ap (λ (t : Initiator). t .me .0) e
 
 -- nor does the step back
 pub back-keeps : (own : Own) (state : Initiator) (m : Message) (taken back : Initiator) → taken ≡ takeReport state m → back ≡ stepBack own taken
-    → 1 ≤ state .me .0 → state .rounds < countLimit → (1 ≤ back .me .0) × (back .rounds < countLimit)
+    → 1 ≤ state .me .0 → state .rounds < tallyLimit → (1 ≤ back .me .0) × (back .rounds < tallyLimit)
 unfolding takeReport stepBack
 back-keeps own state m taken back e f named few =
     let is : back ≡ stepBack own (takeReport state m) = f ∙ ap (stepBack own) e in
-    subst (λ (t : Initiator). (1 ≤ t .me .0) × (t .rounds < countLimit)) (sym is) (named, few)
-
-pick-yes : {A : Type 0} (b : Bool) (a d : A) → b ≡ true → pick b a d ≡ a
-pick-yes b a d h = rw h
-
-pick-no : {A : Type 0} (b : Bool) (a d : A) → b ≡ false → pick b a d ≡ d
-pick-no b a d h = rw h
+    subst (λ (t : Initiator). (1 ≤ t .me .0) × (t .rounds < tallyLimit)) (sym is) (named, few)
 
 module _ (own : ℕ → Own) (state : Initiator) (m : Message) (taken : Initiator) (is-taken : taken ≡ takeReport state m) (done : InitiatorStep) where
   abbrev me : ℕ
@@ -102,7 +97,7 @@ module _ (own : ℕ → Own) (state : Initiator) (m : Message) (taken : Initiato
   step-silent h e =
       e
       ∙ ap (λ (t : Initiator). silent t) is-taken
-      ∙ sym (pick-yes (someone (report .awaited)) (silent report) (compare (stepBack (own me) report)) (still true h))
+      ∙ pick-yes (someone (report .awaited)) (silent report) (compare (stepBack (own me) report)) (still true h)
 
   -- all reports are in
   pub step-compared : (back : Initiator) → someone (taken .awaited) ≡ false → back ≡ stepBack (own (taken .me .0 - 1)) taken → done ≡ compare back
@@ -113,4 +108,4 @@ module _ (own : ℕ → Own) (state : Initiator) (m : Message) (taken : Initiato
       let is : back ≡ stepBack (own me) report = f ∙ (λ i. stepBack (own-same i) (is-taken i)) in
       e
       ∙ ap compare is
-      ∙ sym (pick-no (someone (report .awaited)) (silent report) (compare (stepBack (own me) report)) (still false h))
+      ∙ pick-no (someone (report .awaited)) (silent report) (compare (stepBack (own me) report)) (still false h)

@@ -14,21 +14,25 @@ use Rattle.machine.specs.Flags.{someone, participants, nobody}
 use Rattle.initiator.specs.declared.Initiator.{Initiator}
 use Rattle.initiator.specs.declared.InitiatorStep.{InitiatorStep}
 
--- "The initiator copies its matrix before each wait." "A round is one wait of at least one report, counted as the wait
--- begins." The processes whose reports are awaited are those that get a message (K's Q: 5.2, steps 3, 4 and 8).
-unfoldable pub wait : Initiator → List Bool → Initiator
-wait state awaited =
+-- further on in the same search: n, its process and the purpose stay
+abbrev pub onward : Initiator → (ended : Bool) (candidate rounds : ℕ) (awaited : List Bool) (matrix copy : List Count) → Initiator
+onward state ended candidate rounds awaited matrix copy =
     record {
       n = state .n;
       me = state .me;
       purpose = state .purpose;
-      ended = false;
-      candidate = state .candidate;
-      rounds = state .rounds + 1;
+      ended = ended;
+      candidate = record { 0 = candidate };
+      rounds = rounds;
       awaited = awaited;
-      matrix = state .matrix;
-      copy = state .matrix;
+      matrix = matrix;
+      copy = copy;
     }
+
+-- "The initiator copies its matrix before each wait." "A round is one wait of at least one report, counted as the wait
+-- begins." The processes whose reports are awaited are those that get a message (K's Q: 5.2, steps 3, 4 and 8).
+unfoldable pub wait : Initiator → List Bool → Initiator
+wait state awaited = onward state false (state .candidate .0) (state .rounds + 1) awaited (state .matrix) (state .matrix)
 
 -- Before any wait: nobody is awaited, no round is counted, and the copy is the matrix. Where no wait begins, it has ended:
 -- "the initiator with the call that sends the terminations (with n = 1, the start)"; with purpose 2, the start too.

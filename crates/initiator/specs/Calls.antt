@@ -1,7 +1,7 @@
 -- The initiator's calls: the questions of each in document 01's order, and what it answers.
 use mathlib.Core.List.{List}
 use Prim.Native.Nat.{ℕ, _-_}
-use Rattle.book.specs.declared.Shape.{Shape}
+use Rattle.book.specs.Lent.{Tables}
 use Rattle.book.specs.declared.Process.{Process}
 use Rattle.book.specs.InTurn.{_then_, ask, unlessRefused}
 use Rattle.book.specs.Check.{tablesQuestion}
@@ -22,37 +22,35 @@ use Rattle.initiator.specs.Step.{senderOf, awaits, step}
 -- ---- an initiator begins
 
 -- what a beginning makes of accepted tables
-abbrev pub beginOn : Shape → List ℕ → List ℕ → Process → ℕ → InitiatorStep
-beginOn shape sent received me purpose = begin (ownOf shape sent received (me .0 - 1)) me purpose
+abbrev pub beginOn : Tables → Process → ℕ → InitiatorStep
+beginOn tables me purpose = begin (ownOf tables (me .0 - 1)) me purpose
 
-unfoldable pub beginQuestion : Shape → List ℕ → List ℕ → Process → ℕ → List ℕ → ℕ
-beginQuestion shape sent received me purpose out =
-    tablesQuestion shape sent received
-    then λ _. ask 10 (isNamed (shape .n) (me .0))
+unfoldable pub beginQuestion : Tables → Process → ℕ → List ℕ → ℕ
+beginQuestion tables me purpose out =
+    tablesQuestion tables
+    then λ _. ask 10 (isNamed (tables .shape .n) (me .0))
     then λ _. ask 11 (isPurpose purpose)
-    then λ _. roomQuestion (beginOn shape sent received me purpose .outgoing) out
+    then λ _. roomQuestion (beginOn tables me purpose .outgoing) out
 
 -- beside a refusal: all zero, and ended
 unfoldable pub noInitiator : Initiator
 noInitiator = withoutWait 0 (record { 0 = 0 }) 0 0 (asMatrix (λ j p. 0))
 
-unfoldable pub stateBegun : Shape → List ℕ → List ℕ → Process → ℕ → List ℕ → Initiator
-stateBegun shape sent received me purpose out =
-    unlessRefused (beginQuestion shape sent received me purpose out) noInitiator
-    (beginOn shape sent received me purpose .state)
+unfoldable pub stateBegun : Tables → Process → ℕ → List ℕ → Initiator
+stateBegun tables me purpose out =
+    unlessRefused (beginQuestion tables me purpose out) noInitiator
+    (beginOn tables me purpose .state)
 
-unfoldable pub lengthsBegun : Shape → List ℕ → List ℕ → Process → ℕ → List ℕ → List ℕ
-lengthsBegun shape sent received me purpose out =
-    sentLengths (beginQuestion shape sent received me purpose out) (beginOn shape sent received me purpose .outgoing)
+unfoldable pub lengthsBegun : Tables → Process → ℕ → List ℕ → List ℕ
+lengthsBegun tables me purpose out = sentLengths (beginQuestion tables me purpose out) (beginOn tables me purpose .outgoing)
 
-unfoldable pub bytesBegun : Shape → List ℕ → List ℕ → Process → ℕ → List ℕ → List ℕ
-bytesBegun shape sent received me purpose out =
-    sentBytes (beginQuestion shape sent received me purpose out) (beginOn shape sent received me purpose .outgoing) out
+unfoldable pub bytesBegun : Tables → Process → ℕ → List ℕ → List ℕ
+bytesBegun tables me purpose out = sentBytes (beginQuestion tables me purpose out) (beginOn tables me purpose .outgoing) out
 
 -- ---- an initiator receives a message
 
-abbrev pub ownOfState : Shape → List ℕ → List ℕ → Initiator → Own
-ownOfState shape sent received state = ownOf shape sent received (state .me .0 - 1)
+abbrev pub ownOfState : Tables → Initiator → Own
+ownOfState tables state = ownOf tables (state .me .0 - 1)
 
 -- the initiator's own process is the initiator
 abbrev pub readBy : ℕ → Initiator → List ℕ → Message
@@ -73,25 +71,21 @@ messageQuestion n state s =
     then λ _. ask 16 (allLower (readBy n state s .news) (row (state .matrix) (senderOf (readBy n state s))))
 
 -- the step on accepted tables
-abbrev pub stepOn : Shape → List ℕ → List ℕ → Initiator → List ℕ → InitiatorStep
-stepOn shape sent received state s =
-    step (ownOfState shape sent received state) state (readBy (shape .n) state s)
+abbrev pub stepOn : Tables → Initiator → List ℕ → InitiatorStep
+stepOn tables state s = step (ownOfState tables state) state (readBy (tables .shape .n) state s)
 
-unfoldable pub receiveQuestion : Shape → List ℕ → List ℕ → Initiator → List ℕ → List ℕ → ℕ
-receiveQuestion shape sent received state s out =
-    tablesQuestion shape sent received
-    then λ _. stateQuestion (shape .n) (ownOfState shape sent received state) state
-    then λ _. messageQuestion (shape .n) state s
-    then λ _. roomQuestion (stepOn shape sent received state s .outgoing) out
+unfoldable pub receiveQuestion : Tables → Initiator → List ℕ → List ℕ → ℕ
+receiveQuestion tables state s out =
+    tablesQuestion tables
+    then λ _. stateQuestion (tables .shape .n) (ownOfState tables state) state
+    then λ _. messageQuestion (tables .shape .n) state s
+    then λ _. roomQuestion (stepOn tables state s .outgoing) out
 
-unfoldable pub stateAfter : Shape → List ℕ → List ℕ → Initiator → List ℕ → List ℕ → Initiator
-stateAfter shape sent received state s out =
-    unlessRefused (receiveQuestion shape sent received state s out) state (stepOn shape sent received state s .state)
+unfoldable pub stateAfter : Tables → Initiator → List ℕ → List ℕ → Initiator
+stateAfter tables state s out = unlessRefused (receiveQuestion tables state s out) state (stepOn tables state s .state)
 
-unfoldable pub lengthsAfter : Shape → List ℕ → List ℕ → Initiator → List ℕ → List ℕ → List ℕ
-lengthsAfter shape sent received state s out =
-    sentLengths (receiveQuestion shape sent received state s out) (stepOn shape sent received state s .outgoing)
+unfoldable pub lengthsAfter : Tables → Initiator → List ℕ → List ℕ → List ℕ
+lengthsAfter tables state s out = sentLengths (receiveQuestion tables state s out) (stepOn tables state s .outgoing)
 
-unfoldable pub bytesAfter : Shape → List ℕ → List ℕ → Initiator → List ℕ → List ℕ → List ℕ
-bytesAfter shape sent received state s out =
-    sentBytes (receiveQuestion shape sent received state s out) (stepOn shape sent received state s .outgoing) out
+unfoldable pub bytesAfter : Tables → Initiator → List ℕ → List ℕ → List ℕ
+bytesAfter tables state s out = sentBytes (receiveQuestion tables state s out) (stepOn tables state s .outgoing) out

@@ -9,7 +9,7 @@ use Rattle.matrix.specs.Matrix.{row, column}
 use Rattle.matrix.specs.Entries.{same}
 use Rattle.matrix.specs.Whole.{allRestZero, allNotKnown, allNoneAbove}
 use Rattle.machine.specs.Own.{Own, hasCheckpoint, sentRow, newestPermitted}
-use Rattle.machine.specs.Named.{countLimit}
+use Rattle.machine.specs.Named.{tallyLimit}
 use Rattle.machine.specs.Flags.{someone, onlyParticipants}
 use Rattle.initiator.specs.declared.Initiator.{Initiator}
 
@@ -47,7 +47,7 @@ waitFits state =
     allNoneAbove (state .matrix) (state .copy)
     && ((state .ended || someone (state .awaited))
     -- "Counts of rounds .. are below 4,294,967,295."
-    && ltb (state .rounds) countLimit)
+    && ltb (state .rounds) tallyLimit)
 
 unfoldable pub fits : Own → Initiator → Bool
 fits own state =

@@ -3,6 +3,7 @@ use mathlib.Core.Bool.{Bool, true, _&&_, _||_, not}
 use mathlib.Core.List.{List}
 use Prim.Native.Nat.{ℕ, _-_}
 use lib.Dec.{eqb}
+use Rattle.book.specs.declared.Count.{Count}
 use Rattle.book.specs.Bounds.{mostProcesses}
 use Rattle.lists.specs.Over.{tab}
 use Rattle.lists.specs.Pick.{pick}
@@ -10,6 +11,7 @@ use Rattle.matrix.specs.Matrix.{row, column, withRow, notKnownRow}
 use Rattle.matrix.specs.Entries.{patch, same}
 use Rattle.matrix.specs.Whole.{polls}
 use Rattle.message.specs.declared.Message.{Message}
+use Rattle.mail.specs.declared.Outgoing.{Outgoing}
 use Rattle.message.specs.Layout.{pairCount}
 use Rattle.machine.specs.Own.{Own, sentRow, newestPermitted}
 use Rattle.machine.specs.Named.{isParticipant}
@@ -17,7 +19,7 @@ use Rattle.machine.specs.Sends.{otherHead, noPairs, nothing}
 use Rattle.machine.specs.Flags.{flag, someone, participants}
 use Rattle.initiator.specs.declared.Initiator.{Initiator}
 use Rattle.initiator.specs.declared.InitiatorStep.{InitiatorStep}
-use Rattle.initiator.specs.Begin.{wait}
+use Rattle.initiator.specs.Begin.{onward, wait}
 
 -- the sender's row, which counts from 0
 abbrev pub senderOf : Message → ℕ
@@ -40,17 +42,10 @@ awaits state m =
 unfoldable pub takeReport : Initiator → Message → Initiator
 takeReport state m =
     let j : ℕ = senderOf m in
-    record {
-      n = state .n;
-      me = state .me;
-      purpose = state .purpose;
-      ended = state .ended;
-      candidate = state .candidate;
-      rounds = state .rounds;
-      awaited = tab mostProcesses (λ p. flag (state .awaited) p && not (eqb p j));
-      matrix = withRow (state .matrix) j (patch (row (state .matrix) j) (m .news));
-      copy = state .copy;
-    }
+    onward state (state .ended) (state .candidate .0) (state .rounds)
+    (tab mostProcesses (λ p. flag (state .awaited) p && not (eqb p j)))
+    (withRow (state .matrix) j (patch (row (state .matrix) j) (m .news)))
+    (state .copy)
 
 -- "When all awaited reports are in, it first steps back itself in the same way." (K 5.2, step 6) The known sent counters are
 -- its column, and the new candidate's are its row.
@@ -58,17 +53,7 @@ unfoldable pub stepBack : Own → Initiator → Initiator
 stepBack own state =
     let me : ℕ = state .me .0 - 1 in
     let r : ℕ = newestPermitted own (column (state .matrix) me) in
-    record {
-      n = state .n;
-      me = state .me;
-      purpose = state .purpose;
-      ended = state .ended;
-      candidate = record { 0 = r };
-      rounds = state .rounds;
-      awaited = state .awaited;
-      matrix = withRow (state .matrix) me (sentRow own r);
-      copy = state .copy;
-    }
+    onward state (state .ended) r (state .rounds) (state .awaited) (withRow (state .matrix) me (sentRow own r)) (state .copy)
 
 -- "each participant whose column differs from the copy"
 unfoldable pub polled : Initiator → List Bool
@@ -76,41 +61,24 @@ polled state =
     tab mostProcesses
     (λ p. isParticipant (state .n) (state .me .0 - 1) p && not (same (column (state .matrix) p) (column (state .copy) p)))
 
+-- what it sends beside its invitations
+abbrev pub sends : Initiator → (to : List Bool) (news : List Count) → Outgoing
+sends state to news = record { head = otherHead (state .purpose) (state .me); to = to; news = news }
+
 -- "Then it polls each participant whose column differs from the copy, with the differing entries only." (K 5.2, steps 8, 9)
 unfoldable pub poll : Initiator → InitiatorStep
 poll state =
     record {
       state = wait state (polled state);
-      outgoing =
-          record {
-            head = otherHead (state .purpose) (state .me);
-            to = polled state;
-            news = polls (state .matrix) (state .copy);
-          };
+      outgoing = sends state (polled state) (polls (state .matrix) (state .copy));
     }
 
 -- "If none differs, it sends every participant a termination", and has ended (K 5.2, step 7)
 unfoldable pub terminate : Initiator → InitiatorStep
 terminate state =
     record {
-      state =
-          record {
-            n = state .n;
-            me = state .me;
-            purpose = state .purpose;
-            ended = true;
-            candidate = state .candidate;
-            rounds = state .rounds;
-            awaited = state .awaited;
-            matrix = state .matrix;
-            copy = state .copy;
-          };
-      outgoing =
-          record {
-            head = otherHead (state .purpose) (state .me);
-            to = participants (state .n) (state .me .0 - 1);
-            news = noPairs;
-          };
+      state = onward state true (state .candidate .0) (state .rounds) (state .awaited) (state .matrix) (state .copy);
+      outgoing = sends state (participants (state .n) (state .me .0 - 1)) noPairs;
     }
 
 -- K 5.2, steps 7 and 8: it compares with the copy, and polls if some participant's column differs

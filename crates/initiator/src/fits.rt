@@ -5,9 +5,10 @@ use book::Counter;
 use book::TableRows;
 ghost use mathlib.Core.Path.{_≡_};
 ghost use Prim.Native.Nat.{_-_, _≤_};
+ghost use Rattle.book.specs.Lent.{lent};
 ghost use Rattle.book.specs.View.{count};
 ghost use Rattle.machine.specs.Own.{ownOf};
-ghost use Rattle.machine.specs.Given.{Given};
+ghost use Rattle.book.specs.Accepted.{AcceptedRows, IsProcess};
 ghost use Rattle.initiator.specs.Fits.{keptMatrix, searchFits, restartFits, stageFits, entriesFit, waitFits, fits};
 
 impl Initiator {
@@ -25,9 +26,9 @@ impl Initiator {
 
     // Is the kept row the candidate's, and the candidate the newest that the kept column permits?
     fn search_fits(self, rows: TableRows, sent: &[Counter], received: &[Counter]) -> bool
-        requires { ⌜ Given rows (now sent) (now received) (self .me .0) ⌝ }
+        requires { ⌜ AcceptedRows rows (now sent) (now received) × IsProcess rows (self .me .0) ⌝ }
         requires { ⌜ (1 ≤ self .candidate .0) × (self .candidate .0 ≤ count (rows .shape) (self .me .0 - 1)) ⌝ }
-        ensures { λ r. ⌜ r ≡ searchFits (ownOf (rows .shape) (now (sent .entry)) (now (received .entry)) (self .me .0 - 1)) self ⌝ }
+        ensures { λ r. ⌜ r ≡ searchFits (ownOf (lent (rows .shape) (now (sent .entry)) (now (received .entry))) (self .me .0 - 1)) self ⌝ }
     {
         let me = self.me;
         let candidate = self.candidate;
@@ -61,9 +62,9 @@ impl Initiator {
 
     // The conditions that depend on how far it has come.
     fn stage_fits(self, rows: TableRows, sent: &[Counter], received: &[Counter]) -> bool
-        requires { ⌜ Given rows (now sent) (now received) (self .me .0) ⌝ }
+        requires { ⌜ AcceptedRows rows (now sent) (now received) × IsProcess rows (self .me .0) ⌝ }
         requires { ⌜ (1 ≤ self .candidate .0) × (self .candidate .0 ≤ count (rows .shape) (self .me .0 - 1)) ⌝ }
-        ensures { λ r. ⌜ r ≡ stageFits (ownOf (rows .shape) (now (sent .entry)) (now (received .entry)) (self .me .0 - 1)) self ⌝ }
+        ensures { λ r. ⌜ r ≡ stageFits (ownOf (lent (rows .shape) (now (sent .entry)) (now (received .entry))) (self .me .0 - 1)) self ⌝ }
     {
         if self.ended && self.purpose == 2 {
             return self.restart_fits();
@@ -102,13 +103,13 @@ impl Initiator {
         if !self.ended && !machine::someone(awaited) {
             return false;
         }
-        self.rounds < machine::COUNT_LIMIT
+        self.rounds < machine::TALLY_LIMIT
     }
 
     // Does the state fit the tables (question 13)?
     pub fn fits(self, rows: TableRows, sent: &[Counter], received: &[Counter]) -> bool
-        requires { ⌜ Given rows (now sent) (now received) (self .me .0) ⌝ }
-        ensures { λ r. ⌜ r ≡ fits (ownOf (rows .shape) (now (sent .entry)) (now (received .entry)) (self .me .0 - 1)) self ⌝ }
+        requires { ⌜ AcceptedRows rows (now sent) (now received) × IsProcess rows (self .me .0) ⌝ }
+        ensures { λ r. ⌜ r ≡ fits (ownOf (lent (rows .shape) (now (sent .entry)) (now (received .entry))) (self .me .0 - 1)) self ⌝ }
     {
         let shape = rows.shape;
         let counts = shape.counts;

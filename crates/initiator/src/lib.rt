@@ -14,7 +14,6 @@ use message::Head;
 use message::Message;
 ghost use mathlib.Core.Path.{_≡_};
 ghost use Prim.Native.Nat.{_-_, _≤_, _<_};
-ghost use Rattle.book.specs.Check.{tablesQuestion};
 ghost use Rattle.book.specs.InTurn.{_then_, ask, answerTo};
 ghost use Rattle.lists.specs.Pick.{pick};
 ghost use Rattle.matrix.specs.Matrix.{row};
@@ -22,9 +21,10 @@ ghost use Rattle.matrix.specs.Entries.{allLower};
 ghost use Rattle.book.specs.Names.{isNamed, isPurpose};
 ghost use Rattle.mail.specs.Outgoing.{noLengths};
 ghost use Rattle.machine.specs.Own.{ownOf};
-ghost use Rattle.machine.specs.Named.{countLimit};
+ghost use Rattle.machine.specs.Named.{tallyLimit};
 ghost use Rattle.machine.specs.Flags.{someone};
-ghost use Rattle.machine.specs.Given.{Given};
+ghost use Rattle.book.specs.Lent.{lent};
+ghost use Rattle.book.specs.Accepted.{AreAccepted, AcceptedRows, IsProcess};
 ghost use Rattle.initiator.specs.Begin.{wait, withoutWait, beginSearch, beginRestart, begin};
 ghost use Rattle.initiator.specs.Step.{senderOf, awaits};
 ghost use Rattle.initiator.specs.Calls.{beginQuestion, noInitiator, stateBegun, lengthsBegun, bytesBegun, stateQuestion, receiveQuestion, stateAfter, lengthsAfter, bytesAfter};
@@ -97,8 +97,8 @@ fn begin_search(
     me: Process,
     purpose: u64,
 ) -> InitiatorStep
-    requires { ⌜ Given rows (now sent) (now received) (me .0) ⌝ }
-    ensures { λ r. ⌜ r ≡ beginSearch (ownOf (rows .shape) (now (sent .entry)) (now (received .entry)) (me .0 - 1)) me purpose ⌝ }
+    requires { ⌜ AcceptedRows rows (now sent) (now received) × IsProcess rows (me .0) ⌝ }
+    ensures { λ r. ⌜ r ≡ beginSearch (ownOf (lent (rows .shape) (now (sent .entry)) (now (received .entry))) (me .0 - 1)) me purpose ⌝ }
 {
     let shape = rows.shape;
     let n = shape.n;
@@ -142,7 +142,7 @@ fn begin_restart(n: usize, me: Process, purpose: u64) -> InitiatorStep
 impl Initiator {
     // A wait begins: the matrix is copied, and the round counted.
     fn wait(self, awaited: [bool; 16]) -> Initiator
-        requires { ⌜ self .rounds < countLimit ⌝ }
+        requires { ⌜ self .rounds < tallyLimit ⌝ }
         ensures { λ r. ⌜ r ≡ wait self awaited ⌝ }
     {
         let me = self.me;
@@ -163,7 +163,7 @@ impl Initiator {
 
     // A wait begins if there is somebody to wait for.
     fn wait_if(self, to: [bool; 16]) -> Initiator
-        requires { ⌜ self .rounds < countLimit ⌝ }
+        requires { ⌜ self .rounds < tallyLimit ⌝ }
         ensures { λ r. ⌜ r ≡ pick (someone to) (wait self to) self ⌝ }
     {
         if machine::someone(to) {
@@ -174,8 +174,8 @@ impl Initiator {
 
     // Questions 10, 11 and 13 of a state, on accepted tables.
     fn state_question(self, shape: Shape, sent: &[Counter], received: &[Counter]) -> u32
-        requires { ⌜ tablesQuestion shape (now sent) (now received) ≡ 0 ⌝ }
-        ensures { λ r. ⌜ r ≡ stateQuestion (shape .n) (ownOf shape (now (sent .entry)) (now (received .entry)) (self .me .0 - 1)) self ⌝ }
+        requires { ⌜ AreAccepted (lent shape (now sent) (now received)) ⌝ }
+        ensures { λ r. ⌜ r ≡ stateQuestion (shape .n) (ownOf (lent shape (now (sent .entry)) (now (received .entry))) (self .me .0 - 1)) self ⌝ }
     {
         let me = self.me;
         if !book::is_named(shape.n, me.0) {
@@ -234,10 +234,10 @@ impl Initiator {
         purpose: u64,
         out: &mut [u8],
     ) -> InitiatorAnswer
-        ensures { λ r. ⌜ r .answer ≡ answerTo (beginQuestion shape (now (sent .entry)) (now (received .entry)) me purpose (now (out .entry))) ⌝ }
-        ensures { λ r. ⌜ r .state ≡ stateBegun shape (now (sent .entry)) (now (received .entry)) me purpose (now (out .entry)) ⌝ }
-        ensures { λ r. ⌜ r .lengths ≡ lengthsBegun shape (now (sent .entry)) (now (received .entry)) me purpose (now (out .entry)) ⌝ }
-        ensures { λ _. ⌜ now (out .exit) ≡ bytesBegun shape (now (sent .entry)) (now (received .entry)) me purpose (now (out .entry)) ⌝ }
+        ensures { λ r. ⌜ r .answer ≡ answerTo (beginQuestion (lent shape (now (sent .entry)) (now (received .entry))) me purpose (now (out .entry))) ⌝ }
+        ensures { λ r. ⌜ r .state ≡ stateBegun (lent shape (now (sent .entry)) (now (received .entry))) me purpose (now (out .entry)) ⌝ }
+        ensures { λ r. ⌜ r .lengths ≡ lengthsBegun (lent shape (now (sent .entry)) (now (received .entry))) me purpose (now (out .entry)) ⌝ }
+        ensures { λ _. ⌜ now (out .exit) ≡ bytesBegun (lent shape (now (sent .entry)) (now (received .entry))) me purpose (now (out .entry)) ⌝ }
     {
         let question = tables::question(shape, sent, received);
         if question != 0 {
@@ -273,10 +273,10 @@ impl Initiator {
         s: &[u8],
         out: &mut [u8],
     ) -> InitiatorAnswer
-        ensures { λ r. ⌜ r .answer ≡ answerTo (receiveQuestion shape (now (sent .entry)) (now (received .entry)) self (now (s .entry)) (now (out .entry))) ⌝ }
-        ensures { λ r. ⌜ r .state ≡ stateAfter shape (now (sent .entry)) (now (received .entry)) self (now (s .entry)) (now (out .entry)) ⌝ }
-        ensures { λ r. ⌜ r .lengths ≡ lengthsAfter shape (now (sent .entry)) (now (received .entry)) self (now (s .entry)) (now (out .entry)) ⌝ }
-        ensures { λ _. ⌜ now (out .exit) ≡ bytesAfter shape (now (sent .entry)) (now (received .entry)) self (now (s .entry)) (now (out .entry)) ⌝ }
+        ensures { λ r. ⌜ r .answer ≡ answerTo (receiveQuestion (lent shape (now (sent .entry)) (now (received .entry))) self (now (s .entry)) (now (out .entry))) ⌝ }
+        ensures { λ r. ⌜ r .state ≡ stateAfter (lent shape (now (sent .entry)) (now (received .entry))) self (now (s .entry)) (now (out .entry)) ⌝ }
+        ensures { λ r. ⌜ r .lengths ≡ lengthsAfter (lent shape (now (sent .entry)) (now (received .entry))) self (now (s .entry)) (now (out .entry)) ⌝ }
+        ensures { λ _. ⌜ now (out .exit) ≡ bytesAfter (lent shape (now (sent .entry)) (now (received .entry))) self (now (s .entry)) (now (out .entry)) ⌝ }
     {
         let question = tables::question(shape, sent, received);
         if question != 0 {
@@ -334,8 +334,8 @@ pub fn first_step(
     me: Process,
     purpose: u64,
 ) -> InitiatorStep
-    requires { ⌜ Given rows (now sent) (now received) (me .0) ⌝ }
-    ensures { λ r. ⌜ r ≡ begin (ownOf (rows .shape) (now (sent .entry)) (now (received .entry)) (me .0 - 1)) me purpose ⌝ }
+    requires { ⌜ AcceptedRows rows (now sent) (now received) × IsProcess rows (me .0) ⌝ }
+    ensures { λ r. ⌜ r ≡ begin (ownOf (lent (rows .shape) (now (sent .entry)) (now (received .entry))) (me .0 - 1)) me purpose ⌝ }
 {
     let shape = rows.shape;
     if purpose == 2 {

@@ -9,9 +9,10 @@ use message::Head;
 use message::Message;
 ghost use mathlib.Core.Path.{_≡_};
 ghost use Prim.Native.Nat.{_-_, _≤_, _<_};
+ghost use Rattle.book.specs.Lent.{lent};
 ghost use Rattle.machine.specs.Own.{ownOf};
-ghost use Rattle.machine.specs.Named.{countLimit};
-ghost use Rattle.machine.specs.Given.{Given};
+ghost use Rattle.machine.specs.Named.{tallyLimit};
+ghost use Rattle.book.specs.Accepted.{AcceptedRows, IsProcess};
 ghost use Rattle.initiator.specs.Step.{wholeIfFirst, awaits, takeReport, stepBack, polled, poll, terminate, compare, silent, step};
 
 impl Initiator {
@@ -89,8 +90,8 @@ impl Initiator {
 
     // The initiator's own step back, once all awaited reports are in.
     fn step_back(self, rows: TableRows, sent: &[Counter], received: &[Counter]) -> Initiator
-        requires { ⌜ Given rows (now sent) (now received) (self .me .0) ⌝ }
-        ensures { λ r. ⌜ r ≡ stepBack (ownOf (rows .shape) (now (sent .entry)) (now (received .entry)) (self .me .0 - 1)) self ⌝ }
+        requires { ⌜ AcceptedRows rows (now sent) (now received) × IsProcess rows (self .me .0) ⌝ }
+        ensures { λ r. ⌜ r ≡ stepBack (ownOf (lent (rows .shape) (now (sent .entry)) (now (received .entry))) (self .me .0 - 1)) self ⌝ }
     {
         let me = self.me;
         let near = self.candidate;
@@ -136,7 +137,7 @@ impl Initiator {
 
     // A poll goes to them.
     fn poll(self, to: [bool; 16]) -> InitiatorStep
-        requires { ⌜ self .rounds < countLimit ⌝ }
+        requires { ⌜ self .rounds < tallyLimit ⌝ }
         requires { ⌜ to ≡ polled self ⌝ }
         ensures { λ r. ⌜ r ≡ poll self ⌝ }
     {
@@ -188,7 +189,7 @@ impl Initiator {
 
     // Compares with the copy: polls, or terminates if no column differs.
     fn compare(self) -> InitiatorStep
-        requires { ⌜ (1 ≤ self .me .0) × (self .rounds < countLimit) ⌝ }
+        requires { ⌜ (1 ≤ self .me .0) × (self .rounds < tallyLimit) ⌝ }
         ensures { λ r. ⌜ r ≡ compare self ⌝ }
     {
         let to = self.polled();
@@ -222,10 +223,10 @@ impl Initiator {
         received: &[Counter],
         message: Message,
     ) -> InitiatorStep
-        requires { ⌜ Given rows (now sent) (now received) (self .me .0) ⌝ }
+        requires { ⌜ AcceptedRows rows (now sent) (now received) × IsProcess rows (self .me .0) ⌝ }
         requires { ⌜ (1 ≤ message .head .sender .0) × (message .head .sender .0 ≤ 16) ⌝ }
-        requires { ⌜ self .rounds < countLimit ⌝ }
-        ensures { λ r. ⌜ r ≡ step (ownOf (rows .shape) (now (sent .entry)) (now (received .entry)) (self .me .0 - 1)) self message ⌝ }
+        requires { ⌜ self .rounds < tallyLimit ⌝ }
+        ensures { λ r. ⌜ r ≡ step (ownOf (lent (rows .shape) (now (sent .entry)) (now (received .entry))) (self .me .0 - 1)) self message ⌝ }
     {
         let taken = self.take_report(message);
         let awaited = taken.awaited;

@@ -16,7 +16,7 @@ use Rattle.lists.specs.Pick.{pick}
 use Rattle.matrix.specs.Matrix.{entry, column, withRow, isPair, notKnownAt, notKnownMatrix}
 use Rattle.matrix.proofs.Theorems.{entry-with-row}
 use Rattle.machine.specs.Own.{Own, sentRow, newestPermitted}
-use Rattle.machine.specs.Named.{isParticipant, countLimit}
+use Rattle.machine.specs.Named.{isParticipant, tallyLimit}
 use Rattle.machine.specs.Flags.{flag, someone, participants, nobody}
 use Rattle.machine_laws.specs.Own.{IsOwn}
 use Rattle.machine_laws.proofs.Pairs.{is-pair, pair-sym}
@@ -31,7 +31,7 @@ use Rattle.initiator_laws.proofs.Fit.{Fit, fits-out, Searches, search-o
 -- a wait begins, with the copy made of the matrix
 pub wait-fit : (own : Own) (state : Initiator) (awaited : List Bool) → state .n ≡ own .n → 1 ≤ state .candidate .0
     → state .candidate .0 ≤ own .count → Zeros (state .n) (state .matrix) → Only (state .n) (state .me .0 - 1) awaited
-    → someone awaited ≡ true → Searches own state (state .matrix) → state .rounds + 1 < countLimit → Fit own (wait state awaited)
+    → someone awaited ≡ true → Searches own state (state .matrix) → state .rounds + 1 < tallyLimit → Fit own (wait state awaited)
 unfolding wait
 wait-fit own state awaited processes some among zeros only someone-is searches few =
     record {

@@ -13,7 +13,7 @@ use Rattle.matrix.specs.Entries.{same}
 use Rattle.matrix.specs.Whole.{allRestZero, allNoneAbove}
 use Rattle.matrix.proofs.Theorems.{same-is-same}
 use Rattle.machine.specs.Own.{Own, hasCheckpoint, sentRow, newestPermitted}
-use Rattle.machine.specs.Named.{countLimit}
+use Rattle.machine.specs.Named.{tallyLimit}
 use Rattle.machine.specs.Flags.{someone, onlyParticipants}
 use Rattle.machine_laws.proofs.Rows.{row-at, sent-at}
 use Rattle.machine_laws.proofs.Checkpoints.{checkpoint-in, checkpoint-out}
@@ -31,7 +31,7 @@ pub record Fit (own : Own) (state : Initiator) : Type 0 where
   pub stage : stageFits own state ≡ true
   pub below : Below (state .matrix) (state .copy)
   pub waits : (state .ended || someone (state .awaited)) ≡ true
-  pub few : state .rounds < countLimit
+  pub few : state .rounds < tallyLimit
 
 module _ (own : Own) (state : Initiator) where
   abbrev me : ℕ
@@ -48,7 +48,7 @@ module _ (own : Own) (state : Initiator) where
       let zeros : List Count → Bool = allRestZero (state .n) in
       let only : Bool = onlyParticipants (state .n) me (state .awaited) in
       let waiting : Bool = state .ended || someone (state .awaited) in
-      let few : Bool = ltb (state .rounds) countLimit in
+      let few : Bool = ltb (state .rounds) tallyLimit in
       let e = and-both (zeros (state .matrix)) (zeros (state .copy) && only) (c .0) in
       let f = and-both (zeros (state .copy)) only (e .1) in
       let g = and-both (allNoneAbove (state .matrix) (state .copy)) (waiting && few) (d .1) in
@@ -63,7 +63,7 @@ module _ (own : Own) (state : Initiator) where
         stage = d .0;
         below = below-in (state .matrix) (state .copy) (g .0);
         waits = k .0;
-        few = ltb-true (state .rounds) countLimit (k .1);
+        few = ltb-true (state .rounds) tallyLimit (k .1);
       }
 
   pub fits-out : Fit own state → fits own state ≡ true
@@ -78,7 +78,7 @@ module _ (own : Own) (state : Initiator) where
         fit .stage,
         below-out (state .matrix) (state .copy) (fit .below),
         fit .waits,
-        lt-ltb (state .rounds) countLimit (fit .few),
+        lt-ltb (state .rounds) tallyLimit (fit .few),
       )
 
   -- ---- the row and the column conditions, with the matrix that the kept column stands in

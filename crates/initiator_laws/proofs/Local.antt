@@ -72,31 +72,31 @@ module _ (a b : Own) (j : ℕ) (is-a : IsOwn a j) (is-b : IsOwn b j) (agree : Ag
 
 pub receive-is-local : ReceiveIsLocal
 unfolding receiveQuestion stateAfter lengthsAfter bytesAfter
-receive-is-local shape shape′ sent received sent′ received′ state s out same =
+receive-is-local tables tables′ state s out same =
     let j : ℕ = state .me .0 - 1 in
-    let own : Own = ownOf shape sent received j in
-    let own′ : Own = ownOf shape′ sent′ received′ j in
+    let own : Own = ownOf tables j in
+    let own′ : Own = ownOf tables′ j in
     let outgoing : InitiatorStep → Outgoing = λ x. x .outgoing in
     same-received (λ n. isNamed n (state .me .0)) (isPurpose (state .purpose)) (λ n. messageQuestion n state s) outgoing out
-    state (λ x. x .state) (tablesQuestion shape sent received) (tablesQuestion shape′ sent′ received′) (shape .n) (shape′ .n)
-    (fits own state) (fits own′ state) (stepOn shape sent received state s) (stepOn shape′ sent′ received′ state s)
-    (same .accepted) (same .accepted′) (same .agree .processes)
+    state (λ x. x .state) (tablesQuestion tables) (tablesQuestion tables′) (tables .shape .n) (tables′ .shape .n)
+    (fits own state) (fits own′ state) (stepOn tables state s) (stepOn tables′ state s)
+    (same .accepted .passed) (same .accepted′ .passed) (same .agree .processes)
     (λ h.
-    let is = both-own j shape shape′ sent received sent′ received′ same (named-there (shape .n) (state .me .0) h) in (
+    let is = both-own same (named-there (tables .shape .n) (state .me .0) h) in (
       same-fits own own′ j (is .0) (is .1) (same .agree) state,
-      same-step own own′ j (is .0) (is .1) (same .agree) state (readBy (shape .n) state s)
+      same-step own own′ j (is .0) (is .1) (same .agree) state (readBy (tables .shape .n) state s)
           ∙ ap (λ (n : ℕ). step own′ state (readBy n state s)) (same .agree .processes),
     ))
 
 pub begin-is-local : BeginIsLocal
 unfolding beginQuestion stateBegun lengthsBegun bytesBegun
-begin-is-local shape shape′ sent received sent′ received′ me purpose out same =
+begin-is-local tables tables′ me purpose out same =
     let j : ℕ = me .0 - 1 in
     let outgoing : InitiatorStep → Outgoing = λ x. x .outgoing in
-    same-call (λ n. isNamed n (me .0)) noInitiator out (tablesQuestion shape sent received) (tablesQuestion shape′ sent′ received′)
-    (shape .n) (shape′ .n) (same .accepted) (same .accepted′) (same .agree .processes) (λ x. x .state) outgoing
-    (beginOn shape sent received me purpose) (beginOn shape′ sent′ received′ me purpose)
+    same-call (λ n. isNamed n (me .0)) noInitiator out (tablesQuestion tables) (tablesQuestion tables′)
+    (tables .shape .n) (tables′ .shape .n) (same .accepted .passed) (same .accepted′ .passed) (same .agree .processes) (λ x. x .state) outgoing
+    (beginOn tables me purpose) (beginOn tables′ me purpose)
     (λ n x. ask 11 (isPurpose purpose) then λ _. roomQuestion (x .outgoing) out)
     (λ h.
-    let is = both-own j shape shape′ sent received sent′ received′ same (named-there (shape .n) (me .0) h) in
-    same-begin (ownOf shape sent received j) (ownOf shape′ sent′ received′ j) j (is .0) (is .1) (same .agree) me purpose)
+    let is = both-own same (named-there (tables .shape .n) (me .0) h) in
+    same-begin (ownOf tables j) (ownOf tables′ j) j (is .0) (is .1) (same .agree) me purpose)

@@ -13,7 +13,7 @@ use Rattle.matrix.specs.Matrix.{entry, column, withRow, isPair}
 use Rattle.matrix.specs.Entries.{same}
 use Rattle.message.specs.declared.Message.{Message}
 use Rattle.machine.specs.Own.{Own, sentRow, newestPermitted}
-use Rattle.machine.specs.Named.{isParticipant, countLimit}
+use Rattle.machine.specs.Named.{isParticipant, tallyLimit}
 use Rattle.machine.specs.Flags.{someone}
 use Rattle.machine_laws.proofs.Pairs.{self-no-pair}
 use Rattle.machine_laws.proofs.Rows.{column-at, sent-at}
@@ -111,7 +111,7 @@ module _ (own : Own) (state : Initiator) (m : Message) (a : Accepts own state m)
   zeros-of : Zeros (state .n) matrix
   zeros-of = subst (λ (n : ℕ). Zeros n matrix) (sym (fit own state m a .processes)) matrix-zeros
 
-  poll-fit : someone (polled back) ≡ true → state .rounds + 1 < countLimit → Fit own (wait back (polled back))
+  poll-fit : someone (polled back) ≡ true → state .rounds + 1 < tallyLimit → Fit own (wait back (polled back))
   unfolding stepBack takeReport
   poll-fit some few =
       wait-fit own back (polled back) (fit own state m a .processes) (exists .0) (exists .1) zeros-of (polled-only back) some back-searches few
@@ -162,7 +162,7 @@ step-cases P own state m out polling ending = go (someone (taken .awaited)) refl
 pub step-fits : StepFits
 unfolding poll wait stepBack takeReport
 step-fits own state m a =
-    step-cases (λ s. s .rounds < countLimit → fits own s ≡ true) own state m
+    step-cases (λ s. s .rounds < tallyLimit → fits own s ≡ true) own state m
     (λ e few. fits-out own (takeReport state m) (taken-fit own state m a e))
     (λ e few. fits-out own (poll (stepBack own (takeReport state m)) .state) (poll-fit own state m a e few))
     (λ few. fits-out own (terminate (stepBack own (takeReport state m)) .state) (end-fit own state m a))

@@ -49,8 +49,8 @@ first-round = Begun.first-round
 
 pub stays-above : StaysAbove
 unfolding stepBack
-stays-above shape sent received state sixteen accepted present =
-    stays-above-line shape sent received (state .me .0 - 1) (column (state .matrix) (state .me .0 - 1)) sixteen accepted present
+stays-above t state accepted present =
+    stays-above-line t (state .me .0 - 1) (column (state .matrix) (state .me .0 - 1)) accepted present
 
 pub poll-is-diff : PollIsDiff
 poll-is-diff = Sends.poll-is-diff

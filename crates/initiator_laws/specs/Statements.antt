@@ -5,10 +5,10 @@ use mathlib.Core.List.{List}
 use Prim.Native.Nat.{ℕ, _+_, _-_, _≤_, _<_}
 use lib.ListN.{length}
 use lib.Dec.{eqb}
-use Rattle.book.specs.declared.Shape.{Shape}
 use Rattle.book.specs.declared.Process.{Process}
 use Rattle.book.specs.Bounds.{mostProcesses}
-use Rattle.book.specs.Check.{tablesQuestion}
+use Rattle.book.specs.Lent.{Tables}
+use Rattle.book.specs.Accepted.{AreAccepted}
 use Rattle.line_theory.specs.Sets.{View}
 use Rattle.line_theory.specs.Search.{sentTo, line}
 use Rattle.line_theory.specs.OfTables.{viewOf}
@@ -19,7 +19,7 @@ use Rattle.message.specs.declared.Message.{Message}
 use Rattle.message.specs.Layout.{pairCount}
 use Rattle.mail.specs.Outgoing.{goesTo, messageTo}
 use Rattle.machine.specs.Own.{Own, ownOf}
-use Rattle.machine.specs.Named.{isParticipant, countLimit}
+use Rattle.machine.specs.Named.{isParticipant, tallyLimit}
 use Rattle.machine_laws.specs.Own.{IsOwn, SameTo}
 use Rattle.consistency.specs.Known.{counters}
 use Rattle.machine.specs.Flags.{someone, participants}
@@ -44,9 +44,8 @@ use Rattle.initiator_laws.specs.Accepts.{Accepts, sendsPoll, ColumnFell}
 -- A call that no question refuses takes a step on an accepted message.
 abbrev pub AcceptedCall : Type 0
 AcceptedCall =
-    (shape : Shape) (sent received : List ℕ) (state : Initiator) (s out : List ℕ) → length (shape .counts) ≡ mostProcesses
-    → receiveQuestion shape sent received state s out ≡ 0
-    → Accepts (ownOfState shape sent received state) state (readBy (shape .n) state s)
+    (t : Tables) (state : Initiator) (s out : List ℕ) → length (t .shape .counts) ≡ mostProcesses
+    → receiveQuestion t state s out ≡ 0 → Accepts (ownOfState t state) state (readBy (t .shape .n) state s)
 
 -- ---- question 13 is kept
 
@@ -59,14 +58,14 @@ BeginFits =
 -- So does the state that an accepted call answers.
 abbrev pub BegunFits : Type 0
 BegunFits =
-    (shape : Shape) (sent received : List ℕ) (me : Process) (purpose : ℕ) (out : List ℕ)
-    → length (shape .counts) ≡ mostProcesses → beginQuestion shape sent received me purpose out ≡ 0
-    → fits (ownOf shape sent received (me .0 - 1)) (stateBegun shape sent received me purpose out) ≡ true
+    (t : Tables) (me : Process) (purpose : ℕ) (out : List ℕ)
+    → length (t .shape .counts) ≡ mostProcesses → beginQuestion t me purpose out ≡ 0
+    → fits (ownOf t (me .0 - 1)) (stateBegun t me purpose out) ≡ true
 
 -- After an accepted step it fits them again, unless the count of rounds has reached its limit.
 abbrev pub StepFits : Type 0
 StepFits =
-    (own : Own) (state : Initiator) (m : Message) → Accepts own state m → step own state m .state .rounds < countLimit
+    (own : Own) (state : Initiator) (m : Message) → Accepts own state m → step own state m .state .rounds < tallyLimit
     → fits own (step own state m .state) ≡ true
 
 -- ---- what a step does
@@ -97,12 +96,10 @@ FirstRound =
 -- back stays at or above the line.
 abbrev pub StaysAbove : Type 0
 StaysAbove =
-    (shape : Shape) (sent received : List ℕ) (state : Initiator) → length (shape .counts) ≡ mostProcesses
-    → tablesQuestion shape sent received ≡ 0 → state .me .0 - 1 < shape .n
-    → let me : ℕ = state .me .0 - 1 in
-    let v : View = viewOf shape sent received in
-    ((p : ℕ) → p < shape .n → sentTo v (line v) me p ≤ counters (column (state .matrix) me) p)
-    → line v me ≤ stepBack (ownOf shape sent received me) state .candidate .0
+    (t : Tables) (state : Initiator) → AreAccepted t → state .me .0 - 1 < t .shape .n → let me : ℕ = state .me .0 - 1 in
+    let v : View = viewOf t in
+    ((p : ℕ) → p < t .shape .n → sentTo v (line v) me p ≤ counters (column (state .matrix) me) p)
+    → line v me ≤ stepBack (ownOf t me) state .candidate .0
 
 -- ---- what is sent
 
@@ -137,19 +134,17 @@ TerminationIsEmpty =
 -- Locality: what an initiator answers, writes and becomes depends on the tables by its own checkpoints alone.
 abbrev pub ReceiveIsLocal : Type 0
 ReceiveIsLocal =
-    (shape shape′ : Shape) (sent received sent′ received′ : List ℕ) (state : Initiator) (s out : List ℕ)
-    → SameTo (state .me .0 - 1) shape shape′ sent received sent′ received′
-    → (receiveQuestion shape sent received state s out ≡ receiveQuestion shape′ sent′ received′ state s out)
-    × (stateAfter shape sent received state s out ≡ stateAfter shape′ sent′ received′ state s out)
-    × (lengthsAfter shape sent received state s out ≡ lengthsAfter shape′ sent′ received′ state s out)
-    × (bytesAfter shape sent received state s out ≡ bytesAfter shape′ sent′ received′ state s out)
+    (tables tables′ : Tables) (state : Initiator) (s out : List ℕ)
+    → SameTo (state .me .0 - 1) tables tables′ → (receiveQuestion tables state s out ≡ receiveQuestion tables′ state s out)
+    × (stateAfter tables state s out ≡ stateAfter tables′ state s out)
+    × (lengthsAfter tables state s out ≡ lengthsAfter tables′ state s out)
+    × (bytesAfter tables state s out ≡ bytesAfter tables′ state s out)
 
 -- The same where it begins.
 abbrev pub BeginIsLocal : Type 0
 BeginIsLocal =
-    (shape shape′ : Shape) (sent received sent′ received′ : List ℕ) (me : Process) (purpose : ℕ) (out : List ℕ)
-    → SameTo (me .0 - 1) shape shape′ sent received sent′ received′
-    → (beginQuestion shape sent received me purpose out ≡ beginQuestion shape′ sent′ received′ me purpose out)
-    × (stateBegun shape sent received me purpose out ≡ stateBegun shape′ sent′ received′ me purpose out)
-    × (lengthsBegun shape sent received me purpose out ≡ lengthsBegun shape′ sent′ received′ me purpose out)
-    × (bytesBegun shape sent received me purpose out ≡ bytesBegun shape′ sent′ received′ me purpose out)
+    (tables tables′ : Tables) (me : Process) (purpose : ℕ) (out : List ℕ)
+    → SameTo (me .0 - 1) tables tables′ → (beginQuestion tables me purpose out ≡ beginQuestion tables′ me purpose out)
+    × (stateBegun tables me purpose out ≡ stateBegun tables′ me purpose out)
+    × (lengthsBegun tables me purpose out ≡ lengthsBegun tables′ me purpose out)
+    × (bytesBegun tables me purpose out ≡ bytesBegun tables′ me purpose out)

@@ -4,15 +4,16 @@ use mathlib.Core.List.{List}
 use Prim.Native.Nat.{ℕ, zero, suc, _≤_}
 use native.Mathlib.Omega.{arith}
 use lib.ListN.{take}
+use Rattle.book.specs.Lent.{Tables, lent}
 use Rattle.book.specs.declared.Answer.{Answer}
 use Rattle.book.specs.declared.Answer.the-variants.{Accepted, Refused}
 use Rattle.book.specs.declared.Shape.{Shape}
 use Rattle.book.specs.declared.Process.{Process}
 use Rattle.book.specs.declared.Checkpoint.{Checkpoint}
 use Rattle.book.specs.InTurn.{answerTo}
-use Rattle.book.specs.Read.{readQuestion, shapeRead, sentRead, receivedRead}
+use Rattle.book.specs.Read.{readQuestion, shapeRead, sentRead, receivedRead, tablesRead}
 use Rattle.round_trips.proofs.Theorems.{read-passes-check}
-use Rattle.line_theory.proofs.Accepted.{accepted-size}
+use Rattle.line_theory.proofs.Accepted.{passed-size}
 use Rattle.searches.specs.Search.{setSearched, newerSearched, roundsSearched, messagesSearched}
 use Rattle.line_text.specs.declared.Text.{Text}
 use Rattle.line_text.specs.Text.{foundText, refusedText}
@@ -23,12 +24,12 @@ abbrev first : Process
 first = record { 0 = 1 }
 
 -- what a search answers makes its text
-pub searched-text : (shape : Shape) (sent received : List ℕ) (set : List Checkpoint) (passed rounds messages : ℕ) (text : Text)
-    → set ≡ setSearched shape sent received first 3 → passed ≡ newerSearched shape sent received first 3
-    → rounds ≡ roundsSearched shape sent received first 3 → messages ≡ messagesSearched shape sent received first 3
-    → Holds text (foundText (shape .n) set passed rounds messages) → Holds text (searchText shape sent received)
-searched-text shape sent received set passed rounds messages text s p r m h =
-    let e : foundText (shape .n) set passed rounds messages ≡ searchText shape sent received = cc in
+pub searched-text : (t : Tables) (set : List Checkpoint) (passed rounds messages : ℕ) (text : Text)
+    → set ≡ setSearched t first 3 → passed ≡ newerSearched t first 3
+    → rounds ≡ roundsSearched t first 3 → messages ≡ messagesSearched t first 3
+    → Holds text (foundText (t .shape .n) set passed rounds messages) → Holds text (searchText t)
+searched-text t set passed rounds messages text s p r m h =
+    let e : foundText (t .shape .n) set passed rounds messages ≡ searchText t = cc in
     subst (λ (l : List ℕ). Holds text l) e h
 
 -- a book that is read into zeros
@@ -60,15 +61,15 @@ module _ (bytes sent received : List ℕ) (answer : Answer) (zeros : sent ≡ ta
     few-read =
         let none : readQuestion bytes sent received ≡ 0 = cc (no-question accepted) in
         rw is-shape
-        (accepted-size (shapeRead bytes sent received) (sentRead bytes sent received) (receivedRead bytes sent received)
+        (passed-size (tablesRead bytes sent received)
         (read-passes-check bytes sent received none) .1)
 
     pub accepted-line : (sent′ received′ : List ℕ) (text : Text) → sent′ ≡ sentRead bytes sent received
-        → received′ ≡ receivedRead bytes sent received → Holds text (searchText shape sent′ received′)
+        → received′ ≡ receivedRead bytes sent received → Holds text (searchText (lent shape sent′ received′))
         → take (text .len) (text .bytes) ≡ lineText bytes
     unfolding lineText
     accepted-line sent′ received′ text is-sent is-received h =
         h .first ∙ ap3 ∙ ap (λ (q : ℕ). textBy q bytes) (sym (no-question accepted))
       where
-        ap3 : searchText shape sent′ received′ ≡ textBy 0 bytes
+        ap3 : searchText (lent shape sent′ received′) ≡ textBy 0 bytes
         ap3 = rw (is-shape, is-sent, is-received, zeros, zeros′)

@@ -1,46 +1,25 @@
--- A text copied into a buffer byte by byte, and whether it fits.
+-- The first bytes of a text, and whether they fit.
 -- Assumes nothing.
-use mathlib.Core.Path.{_≡_, refl, _∙_}
+use mathlib.Core.Path.{_≡_, refl, sym}
 use mathlib.Core.Bool.{Bool, true, false}
-use mathlib.Core.List.{List, [], _∷_, _++_}
-use Prim.Native.Nat.{ℕ, _+_, _≤_, _<_}
-use native.Mathlib.Nat.{zero-add}
-use native.Mathlib.Numerals.{add-one}
+use mathlib.Core.List.{List}
+use Prim.Native.Nat.{ℕ, _≤_, _<_}
 use native.Mathlib.Omega.{arith}
 use borrow.Author.Tests.{le-leb, lt-leb, leb-true}
-use lib.ListN.{length, take, set, getD, length-set}
-use lib.Seq.{sets, take-suc, length-take-le}
+use lib.ListN.{length, take, getD}
+use lib.Seq.{sets, length-take-le, getD-take}
 use lib.Dec.{leb}
 use Rattle.book.specs.declared.WriteAnswer.the-variants.{Length, Refused}
 use Rattle.book.specs.InTurn.{ask}
 use Rattle.book.specs.Write.{lengthOr}
-use Rattle.lists.proofs.Stores.{sets-append}
+use Rattle.lists.specs.Over.{tab}
+use Rattle.lists.proofs.Over.{tab-is}
 use Rattle.line_text.specs.Put.{putAnswer, textPut}
 
--- the first i bytes of a text stand at the buffer's start
-pub record Copied (bytes : List ℕ) (len : ℕ) (out₀ out : List ℕ) (i : ℕ) : Type 0 where
-  pub place : i ≤ len
-  pub same : length out ≡ length out₀
-  pub first : out ≡ sets out₀ 0 (take i bytes)
-
-pub copied-none : (bytes : List ℕ) (len : ℕ) (out : List ℕ) → Copied bytes len out out 0
-copied-none bytes len out = record { place = omega arith; same = refl; first = refl }
-
-pub copied-more : {bytes : List ℕ} {len : ℕ} {out₀ out : List ℕ} {i : ℕ} → Copied bytes len out₀ out i → i < len → len ≤ length bytes
-    → Copied bytes len out₀ (set out i (getD bytes i 0)) (i + 1)
-copied-more {bytes} {len} {out₀} {out} {i} r h k =
-    let b : i < length bytes = omega arith in
-    let l : length (take i bytes) ≡ i = length-take-le i bytes (omega arith) in
-    let s : sets (sets out₀ 0 (take i bytes)) (0 + length (take i bytes)) (getD bytes i 0 ∷ []) ≡ sets out₀ 0 (take i bytes ++ (getD bytes i 0 ∷ [])) =
-    sets-append (take i bytes) (getD bytes i 0 ∷ []) out₀ 0 in
-    record {
-      place = omega arith;
-      same = length-set out i (getD bytes i 0) ∙ r .same;
-      first = rw (add-one i, take-suc bytes i 0 b, r .first) (rw (l, zero-add i) at s);
-    }
-
-pub copied-all : {bytes : List ℕ} {len : ℕ} {out₀ out : List ℕ} {i : ℕ} → Copied bytes len out₀ out i → len ≤ i → out ≡ sets out₀ 0 (take len bytes)
-copied-all {bytes} {len} {out₀} {out} {i} r h = let e : i ≡ len = omega (arith, r .place) in rw e at (r .first)
+-- the first bytes of a text, one by one
+pub tab-take : (bytes : List ℕ) (len : ℕ) → len ≤ length bytes → tab len (λ i. getD bytes i 0) ≡ take len bytes
+tab-take bytes len h =
+    sym (tab-is 0 len (λ i. getD bytes i 0) (take len bytes) (length-take-le len bytes h) (λ i m. getD-take len bytes i 0 m))
 
 -- ---- whether it fits
 

@@ -10,6 +10,7 @@ ghost use mathlib.Core.List.{[], _∷_};
 ghost use Prim.Native.Nat.{_+_, _≤_, _<_};
 ghost use lib.ListN.{length, take};
 ghost use lib.Seq.{sets};
+ghost use Rattle.book.specs.Lent.{lent};
 ghost use Rattle.line_text.specs.Text.{decimal, spaced, labelled, checkpointNumbers, firstLines, foundText, refusedText};
 ghost use Rattle.line_text.specs.Put.{putAnswer, textPut};
 ghost use Rattle.line_text.specs.Line.{tableInside, searchText, lineText};
@@ -173,7 +174,7 @@ fn table_inside() -> [Counter; 4096]
 // The text of a search with purpose 3 from process 1.
 fn search_text(shape: Shape, sent: &[Counter], received: &[Counter]) -> Text
     requires { ⌜ shape .n ≤ 16 ⌝ }
-    ensures { λ r. ⌜ Holds r (searchText shape (now (sent .entry)) (now (received .entry))) ⌝ }
+    ensures { λ r. ⌜ Holds r (searchText (lent shape (now (sent .entry)) (now (received .entry)))) ⌝ }
 {
     let found = searches::search(shape, sent, received, Process(1), 3);
     let set = found.set;

@@ -12,12 +12,17 @@ use borrow.Author.Tests.{lt-ltb, le-ltb, eqb-true}
 use lib.ListN.{length, take, drop, getD}
 use lib.Seq.{take-take, getD-take, getD-drop}
 use Rattle.book.specs.declared.Shape.{Shape}
+use Rattle.book.specs.declared.TableRows.{TableRows}
 use Rattle.book.specs.Bounds.{mark}
+use Rattle.book.specs.Lent.{lent, Tables}
 use Rattle.book.specs.Check.{tablesQuestion}
+use Rattle.book.specs.Accepted.{AreAccepted, AcceptedRows}
+use Rattle.book.specs.Fits.{Placed}
 use Rattle.book.specs.Layout.{Book}
 use Rattle.book.specs.Questions.{allZero, unusedOf, unusedFrom}
 use Rattle.book.specs.Tables.{partnerColumn, bookOf}
 use Rattle.book.specs.View.{sum, counterAt, count, S, R}
+use Rattle.book.proofs.Zeros.{zero-at}
 use Rattle.book.proofs.Counts.{few-in-all}
 use Rattle.round_trips.specs.WellFormed.{process, counter, WellFormed}
 use Rattle.round_trips.proofs.Tables.{Checked, tables-taken, of-good}
@@ -26,14 +31,6 @@ use Rattle.round_trips.proofs.Well.{good-well}
 use Rattle.round_trips.proofs.Zeros.{zero-cons, append-zeros}
 use Rattle.line_theory.specs.Sets.{IsBook}
 use Rattle.line_theory.specs.OfTables.{viewOf}
-use Rattle.line_theory.specs.Statements.{AcceptedIsBook}
-
--- ---- zeros
-
-zero-at : (l : List ℕ) → allZero l ≡ true → (i : ℕ) → getD l i 0 ≡ 0
-zero-at [] z i = refl
-zero-at (v ∷ l) z zero = eqb-true v 0 (zero-cons v l z .0)
-zero-at (v ∷ l) z (suc i) = zero-at l (zero-cons v l z .1) i
 
 -- counts that are zero from place k on add nothing
 sum-held : (k : ℕ) (l : List ℕ) → allZero (drop k l) ≡ true → sum l ≡ sum (take k l)
@@ -108,23 +105,26 @@ by-column P n j h own other p m =
 
 -- ---- accepted tables
 
-module _ (shape : Shape) (sent received : List ℕ) where
-  pub accepted-size : tablesQuestion shape sent received ≡ 0 → (1 ≤ shape .n) × (shape .n ≤ 16)
-  accepted-size h = let c = tables-taken shape sent received h in (c .some, c .few)
+-- of the size the sixteen counts are not needed
+pub passed-size : (t : Tables) → tablesQuestion t ≡ 0 → (1 ≤ t .shape .n) × (t .shape .n ≤ 16)
+passed-size t h = let c = tables-taken t h in (c .some, c .few)
 
-  pub accepted-lengths : tablesQuestion shape sent received ≡ 0 → (length sent ≡ 4096) × (length received ≡ 4096)
-  accepted-lengths h = let c = tables-taken shape sent received h in (c .sent, c .received)
-
-module _ (shape : Shape) (sent received : List ℕ) (sixteen : length (shape .counts) ≡ 16) (accepted : tablesQuestion shape sent received ≡ 0) where
+module _ {shape : Shape} {sent received : List ℕ} (accepted : AreAccepted (lent shape sent received)) where
   abbrev pub book : Book
-  book = bookOf shape sent received
+  book = bookOf (lent shape sent received)
 
   -- the counts of the processes that there are
   abbrev pub held : List ℕ
   held = take (shape .n) (shape .counts)
 
-  pub checked : Checked shape sent received
-  checked = tables-taken shape sent received accepted
+  pub checked : Checked (lent shape sent received)
+  checked = tables-taken (lent shape sent received) (accepted .passed)
+
+  pub accepted-size : (1 ≤ shape .n) × (shape .n ≤ 16)
+  accepted-size = (checked .some, checked .few)
+
+  pub accepted-lengths : (length sent ≡ 4096) × (length received ≡ 4096)
+  accepted-lengths = (checked .sent, checked .received)
 
   pub accepted-few : sum (shape .counts) ≤ 256
   accepted-few = rw (sum-held (shape .n) (shape .counts) (checked .counts-zero)) (few-in-all held (checked .counts))
@@ -136,7 +136,7 @@ module _ (shape : Shape) (sent received : List ℕ) (sixteen : length (shape .co
       (zero-at (drop (shape .n) (shape .counts)) (checked .counts-zero) (j - shape .n))
 
   pub well : WellFormed book
-  well = good-well book (of-good shape sent received sixteen checked)
+  well = good-well book (of-good (accepted .sixteen) checked)
 
   -- an unused column of process j, at its checkpoint r, counted from 0
   pub unused-entry : (table : List ℕ) → allZero (unusedFrom (shape .n) 0 held table) ≡ true → (j r q : ℕ) → j < shape .n
@@ -150,7 +150,7 @@ module _ (shape : Shape) (sent received : List ℕ) (sixteen : length (shape .co
   -- the entries of that checkpoint
   module _ (j r : ℕ) (h : j < shape .n) (m : r < count shape j) where
     pub inside : r < length (process book j)
-    inside = rw (view-count shape sent received sixteen checked j h) at m
+    inside = rw (view-count (accepted .sixteen) checked j h) at m
 
     pub sent-own : S shape sent j (suc r) j ≡ 0
     sent-own = unused-entry sent (checked .sent-zero) j r j h m (inl refl)
@@ -159,10 +159,10 @@ module _ (shape : Shape) (sent received : List ℕ) (sixteen : length (shape .co
     received-own = unused-entry received (checked .received-zero) j r j h m (inl refl)
 
     pub sent-of : (k : ℕ) → k < shape .n - 1 → S shape sent j (suc r) (partnerColumn j k) ≡ counter book j r k
-    sent-of k i = view-sent shape sent received sixteen checked j h r k m i
+    sent-of k i = view-sent (accepted .sixteen) checked j h r k m i
 
     pub received-of : (k : ℕ) → k < shape .n - 1 → R shape received j (suc r) (partnerColumn j k) ≡ counter book j r (shape .n - 1 + k)
-    received-of k i = view-received shape sent received sixteen checked j h r k m i
+    received-of k i = view-received (accepted .sixteen) checked j h r k m i
 
   -- received counters rise too, of which the theory of the line says nothing
   pub received-rises : (j r p : ℕ) → j < shape .n → p < shape .n → 1 ≤ r → r < count shape j
@@ -175,11 +175,11 @@ module _ (shape : Shape) (sent received : List ℕ) (sixteen : length (shape .co
       rw (received-of j r h m′ k i, received-of j (suc r) h m k i)
       (well .rising j r (shape .n - 1 + k) h (inside j (suc r) h m) (omega arith))) p o
 
-  accepted-book : IsBook mark (viewOf shape sent received)
+  pub accepted-book : IsBook mark (viewOf (lent shape sent received))
   accepted-book = record { some = some; rising = rising; below = below; received = at-most; oldest = oldest; own = own }
     where
       some : (j : ℕ) → j < shape .n → 1 ≤ count shape j
-      some j h = rw (view-count shape sent received sixteen checked j h) (well .some j h)
+      some j h = rw (view-count (accepted .sixteen) checked j h) (well .some j h)
 
       rising : (j r p : ℕ) → j < shape .n → p < shape .n → 1 ≤ r → r < count shape j → S shape sent j r p ≤ S shape sent j (suc r) p
       rising j zero p h o a m = absurd (omega arith)
@@ -203,11 +203,15 @@ module _ (shape : Shape) (sent received : List ℕ) (sixteen : length (shape .co
       oldest : (j p : ℕ) → j < shape .n → p < shape .n → R shape received j 1 p ≡ 0
       oldest j p h o =
           by-column (λ q. R shape received j 1 q ≡ 0) (shape .n) j h (received-own j 0 h (some j h))
-          (λ k i. received-of j 0 h (some j h) k i ∙ well .oldest j (shape .n - 1 + k) h (omega arith)) p o
+          (λ k i. received-of j 0 h (some j h) k i ∙ well .oldest-received j k h i) p o
 
       own : (j r : ℕ) → j < shape .n → 1 ≤ r → r ≤ count shape j → (S shape sent j r j ≡ 0) × (R shape received j r j ≡ 0)
       own j zero h a m = absurd (omega arith)
       own j (suc r) h a m = (sent-own j r h m, received-own j r h m)
 
-pub accepted-is-book : AcceptedIsBook
-accepted-is-book = accepted-book
+-- the rows that a call has found
+pub rows-placed : {rows : TableRows} {sent received : List ℕ} → AcceptedRows rows sent received → Placed rows
+rows-placed given = record { starts = given .starts; inside = accepted-few (given .accepted) }
+
+pub rows-few : {rows : TableRows} {sent received : List ℕ} → AcceptedRows rows sent received → rows .shape .n ≤ 16
+rows-few given = accepted-size (given .accepted) .1

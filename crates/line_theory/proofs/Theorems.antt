@@ -21,7 +21,7 @@ use Rattle.line_theory.specs.Statements.{
 use Rattle.line_theory.proofs.Tests
 use Rattle.line_theory.proofs.Steps
 use Rattle.line_theory.proofs.Line
-use Rattle.line_theory.proofs.Accepted
+use Rattle.line_theory.proofs.Accepted.{accepted-book}
 
 pub test-is-pairwise : TestIsPairwise
 test-is-pairwise = Tests.test-is-pairwise
@@ -69,4 +69,4 @@ pub consistent-above-is-line : ConsistentAboveIsLine
 consistent-above-is-line = Line.consistent-above-is-line
 
 pub accepted-is-book : AcceptedIsBook
-accepted-is-book = Accepted.accepted-is-book
+accepted-is-book t = accepted-book

@@ -1,9 +1,14 @@
 -- The view of lent tables, for the theory of the line.
-use mathlib.Core.List.{List}
 use Prim.Native.Nat.{ℕ}
-use Rattle.book.specs.declared.Shape.{Shape}
+use Rattle.book.specs.Lent.{Tables}
 use Rattle.book.specs.View.{count, S, R}
 use Rattle.line_theory.specs.Sets.{View}
 
-abbrev pub viewOf : Shape → List ℕ → List ℕ → View
-viewOf shape sent received = record { n = shape .n; count = count shape; S = S shape sent; R = R shape received }
+abbrev pub viewOf : Tables → View
+viewOf tables =
+    record {
+      n = tables .shape .n;
+      count = count (tables .shape);
+      S = S (tables .shape) (tables .sent);
+      R = R (tables .shape) (tables .received);
+    }

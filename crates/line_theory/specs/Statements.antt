@@ -2,13 +2,11 @@
 -- m is the mark.
 use mathlib.Core.Path.{_≡_}
 use mathlib.Core.Bool.{true, false}
-use mathlib.Core.List.{List}
 use mathlib.Core.Logic.{_↔_}
 use Prim.Native.Nat.{ℕ, _+_, _≤_, _<_}
-use lib.ListN.{length}
-use Rattle.book.specs.declared.Shape.{Shape}
-use Rattle.book.specs.Bounds.{mark, mostProcesses}
-use Rattle.book.specs.Check.{tablesQuestion}
+use Rattle.book.specs.Bounds.{mark}
+use Rattle.book.specs.Lent.{Tables}
+use Rattle.book.specs.Accepted.{AreAccepted}
 use Rattle.lists.specs.Over.{sumTo}
 use Rattle.line_theory.specs.Sets.{View, IsBook, IsSet, Consistent, atFault, consistent, IsLine, newerThan, cut}
 use Rattle.line_theory.specs.Search.{permitted, newest, sentTo, line}
@@ -56,9 +54,7 @@ NewerIsDistance = (v : View) (c : ℕ → ℕ) → IsSet v c → newerThan v c +
 
 -- Accepted tables are a book, as the theory of the line wants it.
 abbrev pub AcceptedIsBook : Type 0
-AcceptedIsBook =
-    (shape : Shape) (sent received : List ℕ) → length (shape .counts) ≡ mostProcesses → tablesQuestion shape sent received ≡ 0
-    → IsBook mark (viewOf shape sent received)
+AcceptedIsBook = (tables : Tables) → AreAccepted tables → IsBook mark (viewOf tables)
 
 -- ---- a search that steps back
 

@@ -1,4 +1,6 @@
 pub mod Tests
+pub mod Pick
 pub mod Over
-pub mod Fills
+pub mod Before
 pub mod Stores
+pub mod Filling

@@ -6,9 +6,9 @@ use mathlib.Core.List.{List, [], _∷_, _++_}
 use Prim.Native.Nat.{ℕ, zero, suc, _+_, _-_, _≤_, _<_}
 use native.Mathlib.Decide.{decLt}
 use native.Mathlib.Omega.{arith}
-use lib.ListN.{length, getD}
+use lib.ListN.{length, getD, replicate, length-replicate, getD-replicate, List·getD-eq-default}
 use lib.Seq.{ext-getD}
-use Rattle.lists.proofs.Tests.{and-both, both-and}
+use Rattle.lists.proofs.Tests.{and-both, both-and, both-ways}
 use Rattle.lists.specs.Over.{allTo, sumTo, tabFrom, tab, lastTo}
 
 -- ---- true of all
@@ -41,6 +41,17 @@ all-witness (suc k) f h = go (allTo k f) refl (all-witness k f)
     go : (b : Bool) → allTo k f ≡ b → (allTo k f ≡ false → (i : ℕ) × (i < k) × (f i ≡ false)) → (i : ℕ) × (i < suc k) × (f i ≡ false)
     go true e ih = (k, omega arith, rw e at h)
     go false e ih = let w = ih e in (w .0, omega arith, w .2)
+
+-- two tests that answer alike, and two of which each follows from the other
+pub all-ext : (k : ℕ) (f g : ℕ → Bool) → ((i : ℕ) → i < k → f i ≡ g i) → allTo k f ≡ allTo k g
+unfolding allTo
+all-ext zero f g same = refl
+all-ext (suc k) f g same = rw (all-ext k f g (λ i h. same i (omega arith)), same k (omega arith))
+
+pub all-same : (k m : ℕ) (f g : ℕ → Bool) → (((i : ℕ) → i < k → f i ≡ true) → (i : ℕ) → i < m → g i ≡ true)
+    → (((i : ℕ) → i < m → g i ≡ true) → (i : ℕ) → i < k → f i ≡ true) → allTo k f ≡ allTo m g
+all-same k m f g on back =
+    both-ways (allTo k f) (allTo m g) (λ h. all-out m g (on (all-in k f h))) (λ h. all-out k f (back (all-in m g h)))
 
 -- ---- added up
 
@@ -127,6 +138,14 @@ pub at-place : {A : Type 0} (d e : A) (l : List A) (k : ℕ) → k < length l �
 at-place d e [] k h = absurd (omega arith)
 at-place d e (x ∷ l) zero h = refl
 at-place d e (x ∷ l) (suc k) h = at-place d e l k (omega arith)
+
+-- a list of one value
+pub replicate-at : {A : Type 0} (size : ℕ) (d : A) (i : ℕ) → getD (replicate size d) i d ≡ d
+replicate-at size d i =
+    elim (decLt i size) [
+      | yes h ↦ getD-replicate size i d d h
+      | no h ↦ List·getD-eq-default (replicate size d) d {n = i} (omega (arith, length-replicate size d))
+    ]
 
 -- a list as long, with the values of a function
 pub tab-is : {A : Type 0} (d : A) (k : ℕ) (f : ℕ → A) (l : List A) → length l ≡ k → ((i : ℕ) → i < k → getD l i d ≡ f i) → l ≡ tab k f

@@ -2,4 +2,3 @@ pub mod Own
 pub mod Named
 pub mod Flags
 pub mod Sends
-pub mod Given

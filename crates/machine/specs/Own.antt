@@ -4,7 +4,7 @@ use mathlib.Core.Bool.{Bool, _&&_}
 use mathlib.Core.List.{List}
 use Prim.Native.Nat.{ℕ}
 use lib.Dec.{leb}
-use Rattle.book.specs.declared.Shape.{Shape}
+use Rattle.book.specs.Lent.{Tables}
 use Rattle.book.specs.declared.Count.{Count}
 use Rattle.book.specs.View as view
 use Rattle.line_theory.specs.Search.{newest}
@@ -20,13 +20,13 @@ pub record Own : Type 0 where
   pub R : ℕ → ℕ → ℕ
 
 -- those of process j
-abbrev pub ownOf : Shape → List ℕ → List ℕ → ℕ → Own
-ownOf shape sent received j =
+abbrev pub ownOf : Tables → ℕ → Own
+ownOf tables j =
     record {
-      n = shape .n;
-      count = view.count shape j;
-      S = λ r p. view.S shape sent j r p;
-      R = λ r p. view.R shape received j r p;
+      n = tables .shape .n;
+      count = view.count (tables .shape) j;
+      S = λ r p. view.S (tables .shape) (tables .sent) j r p;
+      R = λ r p. view.R (tables .shape) (tables .received) j r p;
     }
 
 -- "Its candidate exists."

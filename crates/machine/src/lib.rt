@@ -11,17 +11,18 @@ ghost use mathlib.Core.Path.{_≡_};
 ghost use mathlib.Core.Bool.{_&&_, not};
 ghost use Prim.Native.Nat.{_-_, _≤_, _<_};
 ghost use lib.Dec.{eqb};
+ghost use Rattle.book.specs.Accepted.{IsProcess};
 ghost use Rattle.book.specs.View.{count, S};
 ghost use Rattle.lists.specs.Over.{tab};
 ghost use Rattle.matrix.specs.Matrix.{asRow, asMatrix};
 ghost use Rattle.consistency.specs.Known.{counters};
-ghost use Rattle.consistency.specs.Given.{Whole, IsProcess};
+ghost use Rattle.consistency.specs.Given.{Whole};
 ghost use Rattle.machine.specs.Named.{participantNamed, isParticipant};
 ghost use Rattle.machine.specs.Flags.{flag, someone, onlyParticipants, participants};
 ghost use Rattle.machine.specs.Sends.{nothing, onlyTo, isTermination};
 
 // What counts of rounds and of deliveries stay below.
-pub const COUNT_LIMIT: u32 = 4294967295;
+pub const TALLY_LIMIT: u32 = 4294967295;
 
 // Are both named, and is the participant another process than the initiator (question 10)?
 pub fn participant_named(n: usize, me: Process, initiator: Process) -> bool

@@ -1,24 +1,19 @@
 -- In accepted tables the columns of absent processes hold zero.
-use mathlib.Core.Path.{_≡_, refl}
+use mathlib.Core.Path.{_≡_}
 use mathlib.Core.Bool.{true}
 use mathlib.Core.List.{List, [], _∷_, _++_}
 use Prim.Native.Nat.{ℕ, zero, suc, _+_, _-_, _*_, _≤_, _<_}
 use native.Mathlib.Nat.{zero-add}
 use native.Mathlib.Omega.{arith}
-use borrow.Author.Tests.{eqb-true}
 use lib.ListN.{take, drop, getD}
 use lib.Seq.{take-take, getD-take, getD-drop}
-use Rattle.book.specs.declared.Shape.{Shape}
+use Rattle.book.specs.Lent.{Tables}
 use Rattle.book.specs.Check.{tablesQuestion}
 use Rattle.book.specs.Questions.{allZero, unusedOf, unusedFrom}
 use Rattle.book.specs.View.{sum, count, S}
+use Rattle.book.proofs.Zeros.{zero-at}
 use Rattle.round_trips.proofs.Tables.{tables-taken}
 use Rattle.round_trips.proofs.Zeros.{zero-cons, append-zeros}
-
-zero-at : (l : List ℕ) → allZero l ≡ true → (i : ℕ) → getD l i 0 ≡ 0
-zero-at [] z i = refl
-zero-at (v ∷ l) z zero = eqb-true v 0 (zero-cons v l z .0)
-zero-at (v ∷ l) z (suc i) = zero-at l (zero-cons v l z .1) i
 
 module _ (n p : ℕ) (after : n ≤ p) (within : p < 16) where
   -- of a process whose rows begin the table
@@ -54,10 +49,10 @@ module _ (n p : ℕ) (after : n ≤ p) (within : p < 16) where
       (absent-from (suc j) counts (drop (c * 16) table)
       (append-zeros (unusedOf n j c table) (unusedFrom n (suc j) counts (drop (c * 16) table)) z .1) i r h)
 
-pub absent-sent : (shape : Shape) (sent received : List ℕ) → tablesQuestion shape sent received ≡ 0
-    → (j r p : ℕ) → j < shape .n → 1 ≤ r → r ≤ count shape j → shape .n ≤ p → p < 16 → S shape sent j r p ≡ 0
-absent-sent shape sent received none j r p h some most after within =
-    let counts : List ℕ = shape .counts in
-    rw (take-take j (shape .n) counts (omega arith)) at
-    (absent-from (shape .n) p after within 0 (take (shape .n) counts) sent (tables-taken shape sent received none .sent-zero) j (r - 1)
-    (rw (getD-take (shape .n) counts j 0 h) (omega arith)))
+pub absent-sent : (t : Tables) → tablesQuestion t ≡ 0
+    → (j r p : ℕ) → j < t .shape .n → 1 ≤ r → r ≤ count (t .shape) j → t .shape .n ≤ p → p < 16 → S (t .shape) (t .sent) j r p ≡ 0
+absent-sent t none j r p h some most after within =
+    let counts : List ℕ = t .shape .counts in
+    rw (take-take j (t .shape .n) counts (omega arith)) at
+    (absent-from (t .shape .n) p after within 0 (take (t .shape .n) counts) (t .sent) (tables-taken t none .sent-zero) j (r - 1)
+    (rw (getD-take (t .shape .n) counts j 0 h) (omega arith)))

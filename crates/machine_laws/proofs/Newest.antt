@@ -5,9 +5,9 @@ use Prim.Native.Nat.{ℕ, zero, suc, _≤_, _<_}
 use native.Mathlib.Decide.{decLt}
 use native.Mathlib.Omega.{arith}
 use lib.Dec.{leb}
-use Rattle.lists.specs.Over.{allTo, lastTo}
+use Rattle.lists.specs.Over.{lastTo}
 use Rattle.line_theory.specs.Search.{permitted, newest}
-use Rattle.lists.proofs.Over.{last-yes, last-no, last-back, last-true, last-from}
+use Rattle.lists.proofs.Over.{all-ext, last-yes, last-no, last-back, last-true, last-from}
 use Rattle.line_theory.proofs.Steps.{permitted-more}
 use Rattle.line_theory.proofs.Tests.{permitted-out}
 
@@ -32,11 +32,6 @@ last-ext f g (suc k) same = go (f (suc k)) refl (last-ext f g k (λ s a b. same 
     go false e ih = last-no f k e ∙ (ih ∙ sym (last-no g k (sym here ∙ e)))
 
 -- ---- the newest permitted checkpoint
-
-pub all-ext : (k : ℕ) (f g : ℕ → Bool) → ((i : ℕ) → i < k → f i ≡ g i) → allTo k f ≡ allTo k g
-unfolding allTo
-all-ext zero f g same = refl
-all-ext (suc k) f g same = rw (all-ext k f g (λ i h. same i (omega arith)), same k (omega arith))
 
 module _ (n : ℕ) (rows rows′ : ℕ → ℕ → ℕ) (known known′ : ℕ → ℕ) (r : ℕ) where
   -- less known, no later

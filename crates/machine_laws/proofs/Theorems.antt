@@ -1,20 +1,18 @@
 -- The statements of `specs/Statements.antt` hold.
 -- Assumes nothing.
 use mathlib.Core.Path.{_≡_, sym, _∙_}
-use mathlib.Core.List.{List}
 use Prim.Native.Nat.{ℕ, zero, suc, _+_, _-_, _≤_, _<_}
 use native.Mathlib.Decide.{decLt}
 use native.Mathlib.Omega.{arith}
-use lib.ListN.{length}
-use Rattle.book.specs.declared.Shape.{Shape}
 use Rattle.book.specs.Bounds.{mark}
-use Rattle.book.specs.Check.{tablesQuestion}
+use Rattle.book.specs.Lent.{Tables}
+use Rattle.book.specs.Accepted.{AreAccepted}
 use Rattle.book.specs.View.{count, S}
 use Rattle.line_theory.specs.Sets.{View, IsBook, IsLine}
 use Rattle.line_theory.specs.OfTables.{viewOf}
 use Rattle.line_theory.specs.Search.{line}
 use Rattle.line_theory.specs.Statements.{AboveLine}
-use Rattle.line_theory.proofs.Accepted.{accepted-size, accepted-is-book}
+use Rattle.line_theory.proofs.Accepted.{accepted-size, accepted-book}
 use Rattle.line_theory.proofs.Theorems.{line-is-line, step-stays-above}
 use Rattle.consistency.specs.Known.{counters}
 use Rattle.machine.specs.Own.{ownOf}
@@ -28,30 +26,29 @@ use Rattle.machine_laws.proofs.Newest as last
 
 -- ---- accepted tables
 
-module _ (shape : Shape) (sent received : List ℕ) (j : ℕ) (sixteen : length (shape .counts) ≡ 16)
-    (accepted : tablesQuestion shape sent received ≡ 0) (present : j < shape .n) where
-  book : IsBook mark (viewOf shape sent received)
-  book = accepted-is-book shape sent received sixteen accepted
+module _ {t : Tables} (accepted : AreAccepted t) (j : ℕ) (present : j < t .shape .n) where
+  book : IsBook mark (viewOf t)
+  book = accepted-book accepted
 
-  absent : (r p : ℕ) → 1 ≤ r → r ≤ count shape j → shape .n ≤ p → p < 16 → S shape sent j r p ≡ 0
-  absent r p a b h m = absent-sent shape sent received accepted j r p present a b h m
+  absent : (r p : ℕ) → 1 ≤ r → r ≤ count (t .shape) j → t .shape .n ≤ p → p < 16 → S (t .shape) (t .sent) j r p ≡ 0
+  absent r p a b h m = absent-sent t (accepted .passed) j r p present a b h m
 
-  is-own : IsOwn (ownOf shape sent received j) j
+  pub is-own : IsOwn (ownOf t j) j
   is-own =
       record {
-        most = accepted-size shape sent received accepted .1;
+        most = accepted-size accepted .1;
         present = present;
         some = book .some j present;
-        rising = λ r p h a b. elim (decLt p (shape .n)) [
+        rising = λ r p h a b. elim (decLt p (t .shape .n)) [
           | yes m ↦ book .rising j r p present m a b
           | no m ↦ omega (arith, absent r p a (omega arith) (omega arith) h)
         ];
-        below = λ r p h a b. elim (decLt p (shape .n)) [
+        below = λ r p h a b. elim (decLt p (t .shape .n)) [
           | yes m ↦ book .below j r p present m a b
           | no m ↦ omega (arith, absent r p a b (omega arith) h)
         ];
-        rest = λ r p h a b none. elim (decLt p (shape .n)) [
-          | yes m ↦ rw (no-pair (shape .n) j p present none m) (book .own j r present a b .0)
+        rest = λ r p h a b none. elim (decLt p (t .shape .n)) [
+          | yes m ↦ rw (no-pair (t .shape .n) j p present none m) (book .own j r present a b .0)
           | no m ↦ absent r p a b (omega arith) h
         ];
         received = λ r p h a b. book .received j r p present h a b;
@@ -60,16 +57,12 @@ module _ (shape : Shape) (sent received : List ℕ) (j : ℕ) (sixteen : length 
       }
 
 pub accepted-is-own : AcceptedIsOwn
-accepted-is-own shape sent received j sixteen accepted present = is-own shape sent received j sixteen accepted present
+accepted-is-own t j accepted present = is-own accepted j present
 
 -- of two accepted tables that are the same to it
-pub both-own : (j : ℕ) (shape shape′ : Shape) (sent received sent′ received′ : List ℕ)
-    → SameTo j shape shape′ sent received sent′ received′ → j < shape .n
-    → IsOwn (ownOf shape sent received j) j × IsOwn (ownOf shape′ sent′ received′ j) j
-both-own j shape shape′ sent received sent′ received′ same there = (
-  is-own shape sent received j (same .long) (same .accepted) there,
-  is-own shape′ sent′ received′ j (same .long′) (same .accepted′) (omega (arith, same .agree .processes)),
-)
+pub both-own : {j : ℕ} {tables tables′ : Tables} → SameTo j tables tables′ → j < tables .shape .n → IsOwn (ownOf tables j) j
+    × IsOwn (ownOf tables′ j) j
+both-own {j} same there = (is-own (same .accepted) j there, is-own (same .accepted′) j (omega (arith, same .agree .processes)))
 
 -- ---- one process's checkpoints
 
@@ -112,9 +105,9 @@ same-row a b j r is-a is-b agree some most =
     ]
 
 pub stays-above-line : StaysAboveLine
-stays-above-line shape sent received j known sixteen accepted present atLeast =
-    let v : View = viewOf shape sent received in
-    let book : IsBook mark v = accepted-is-book shape sent received sixteen accepted in
+stays-above-line t j known accepted present atLeast =
+    let v : View = viewOf t in
+    let book : IsBook mark v = accepted-book accepted in
     let is : IsLine v (line v) = line-is-line mark v book in
     let above : AboveLine v (line v) = record { above = λ i h. omega arith; among = is .is-set .among } in
-    step-stays-above mark v (line v) (counters known) j (count shape j) book above present atLeast (is .is-set .among j present) (omega arith)
+    step-stays-above mark v (line v) (counters known) j (count (t .shape) j) book above present atLeast (is .is-set .among j present) (omega arith)

@@ -1,12 +1,10 @@
 -- What the laws of the machines ask of a process's own checkpoints, and when two tables agree on them.
 use mathlib.Core.Path.{_≡_}
 use mathlib.Core.Bool.{false}
-use mathlib.Core.List.{List}
 use Prim.Native.Nat.{ℕ, suc, _≤_, _<_}
-use lib.ListN.{length}
-use Rattle.book.specs.declared.Shape.{Shape}
 use Rattle.book.specs.Bounds.{mark, mostProcesses}
-use Rattle.book.specs.Check.{tablesQuestion}
+use Rattle.book.specs.Lent.{Tables}
+use Rattle.book.specs.Accepted.{AreAccepted}
 use Rattle.matrix.specs.Matrix.{isPair}
 use Rattle.machine.specs.Own.{Own, ownOf}
 
@@ -31,9 +29,7 @@ pub record Agree (a b : Own) : Type 0 where
   pub received : (r p : ℕ) → p < a .n → 1 ≤ r → r ≤ a .count → a .R r p ≡ b .R r p
 
 -- two accepted tables with the same checkpoints of process j
-pub record SameTo (j : ℕ) (shape shape′ : Shape) (sent received sent′ received′ : List ℕ) : Type 0 where
-  pub long : length (shape .counts) ≡ mostProcesses
-  pub long′ : length (shape′ .counts) ≡ mostProcesses
-  pub accepted : tablesQuestion shape sent received ≡ 0
-  pub accepted′ : tablesQuestion shape′ sent′ received′ ≡ 0
-  pub agree : Agree (ownOf shape sent received j) (ownOf shape′ sent′ received′ j)
+pub record SameTo (j : ℕ) (tables tables′ : Tables) : Type 0 where
+  pub accepted : AreAccepted tables
+  pub accepted′ : AreAccepted tables′
+  pub agree : Agree (ownOf tables j) (ownOf tables′ j)

@@ -3,11 +3,10 @@ use mathlib.Core.Path.{_≡_}
 use mathlib.Core.Bool.{true}
 use mathlib.Core.List.{List}
 use Prim.Native.Nat.{ℕ, _≤_, _<_}
-use lib.ListN.{length}
-use Rattle.book.specs.declared.Shape.{Shape}
 use Rattle.book.specs.declared.Count.{Count}
 use Rattle.book.specs.Bounds.{mostProcesses}
-use Rattle.book.specs.Check.{tablesQuestion}
+use Rattle.book.specs.Lent.{Tables}
+use Rattle.book.specs.Accepted.{AreAccepted}
 use Rattle.line_theory.specs.Sets.{View}
 use Rattle.line_theory.specs.Search.{sentTo, line}
 use Rattle.line_theory.specs.OfTables.{viewOf}
@@ -18,8 +17,7 @@ use Rattle.machine_laws.specs.Own.{IsOwn, Agree}
 -- The checkpoints of a process in accepted tables are as the laws want them.
 abbrev pub AcceptedIsOwn : Type 0
 AcceptedIsOwn =
-    (shape : Shape) (sent received : List ℕ) (j : ℕ) → length (shape .counts) ≡ mostProcesses
-    → tablesQuestion shape sent received ≡ 0 → j < shape .n → IsOwn (ownOf shape sent received j) j
+    (tables : Tables) (j : ℕ) → AreAccepted tables → j < tables .shape .n → IsOwn (ownOf tables j) j
 
 -- The newest permitted checkpoint exists,
 abbrev pub NewestExists : Type 0
@@ -50,8 +48,7 @@ SameRow =
 -- or above the line's.
 abbrev pub StaysAboveLine : Type 0
 StaysAboveLine =
-    (shape : Shape) (sent received : List ℕ) (j : ℕ) (known : List Count) → length (shape .counts) ≡ mostProcesses
-    → tablesQuestion shape sent received ≡ 0 → j < shape .n
-    → let v : View = viewOf shape sent received in
-    ((p : ℕ) → p < shape .n → sentTo v (line v) j p ≤ counters known p)
-    → line v j ≤ newestPermitted (ownOf shape sent received j) known
+    (tables : Tables) (j : ℕ) (known : List Count) → AreAccepted tables → j < tables .shape .n
+    → let v : View = viewOf tables in
+    ((p : ℕ) → p < tables .shape .n → sentTo v (line v) j p ≤ counters known p)
+    → line v j ≤ newestPermitted (ownOf tables j) known

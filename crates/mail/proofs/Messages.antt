@@ -6,14 +6,12 @@ use Prim.Native.Nat.{ℕ, _+_, _≤_, _<_}
 use native.Mathlib.Numerals.{add-one}
 use native.Mathlib.Omega.{arith}
 use borrow.Author.Tests.{le-leb, lt-leb}
-use lib.ListN.{length, getD, set, length-set}
+use lib.ListN.{length}
 use lib.Seq.{sets}
 use Rattle.varint.specs.Number.{encode}
 use Rattle.varint.specs.Sequence.{encodeAll}
 use Rattle.varint.proofs.Sequence.{encodeAll-append}
 use Rattle.consistency.specs.Known.{counters}
-use Rattle.lists.proofs.Fills.{fill-more}
-use Rattle.lists.proofs.Over.{tab-is}
 use Rattle.message.specs.declared.Head.{Head}
 use Rattle.message.specs.declared.Message.{Message}
 use Rattle.message.specs.Layout.{pairsTo, pairCount, headNumbers, messageBytes}
@@ -52,25 +50,6 @@ module _ (o : Outgoing) (p : ℕ) where
 
   pub bytes-none : goesTo o p ≡ false → bytesTo o p ≡ []
   bytes-none e = rw e
-
--- the lengths of the first k are noted
-pub record Noted (o : Outgoing) (l : List ℕ) (k : ℕ) : Type 0 where
-  pub sixteen : length l ≡ 16
-  pub so-far : (p : ℕ) → p < k → getD l p 0 ≡ length (bytesTo o p)
-
-pub noted-none : (o : Outgoing) (l : List ℕ) → length l ≡ 16 → Noted o l 0
-noted-none o l e = record { sixteen = e; so-far = λ p h. absurd (omega arith) }
-
-pub noted-more : {o : Outgoing} {l : List ℕ} {k size : ℕ} → Noted o l k → k < 16 → size ≡ length (bytesTo o k) → Noted o (set l k size) (k + 1)
-noted-more {o} {l} {k} {size} noted h e =
-    let P : ℕ → ℕ → Type 0 = λ p n. n ≡ length (bytesTo o p) in
-    record {
-      sixteen = simp length-set (noted .sixteen);
-      so-far = fill-more P 0 l k size (omega (arith, noted .sixteen)) (noted .so-far) e;
-    }
-
-pub noted-all : {o : Outgoing} {l : List ℕ} {k : ℕ} → Noted o l k → 16 ≤ k → l ≡ lengths o
-noted-all {o} {l} {k} noted h = tab-is 0 16 (λ p. length (bytesTo o p)) l (noted .sixteen) (λ p i. noted .so-far p (omega arith))
 
 -- ---- the answer
 

@@ -8,11 +8,12 @@ use borrow.Author.Tests.{eq-eqb, ne-eqb}
 use lib.ListN.{length, length-append}
 use Rattle.varint.specs.Number.{encode}
 use Rattle.varint.specs.Sequence.{encodeAll}
-use Rattle.varint.proofs.Encode.{encode-size}
+use Rattle.varint.proofs.WriteTurns.{size-most}
 use Rattle.varint.proofs.Sequence.{encodeAll-append}
 use Rattle.book.specs.Bounds.{mark}
 use Rattle.matrix.specs.Entries.{isNews}
 use Rattle.message.specs.Layout.{onePair, pairsTo}
+use Rattle.mail.specs.Sizes.{pairMost}
 use Rattle.mail.proofs.Turns.{Parts, Stored, stored-none, stored-more, stored-long}
 
 -- the bytes of the pairs of the first k processes, and those of one process
@@ -70,8 +71,8 @@ module _ (news : ℕ → ℕ) (k : ℕ) where
   pub no-pair-stored : news k ≡ mark → (out : List ℕ) (next : ℕ) → Stored (pairOf news k) out next out next
   no-pair-stored equal out next = subst (λ (l : List ℕ). Stored l out next out next) (sym (no-pair equal)) (stored-none out next)
 
--- a process takes at most ten bytes, a counter at most five
-pub pair-few : {process counter a b : ℕ} → process < 2 ^ 64 → counter < 2 ^ 32 → a ≡ length (encode process) → b ≡ length (encode counter)
-    → a + b ≤ 15
+-- a process and a counter, of 64 bits each
+pub pair-few : {process counter a b : ℕ} → process < 2 ^ 64 → counter < 2 ^ 64 → a ≡ length (encode process) → b ≡ length (encode counter)
+    → a + b ≤ pairMost
 pair-few {process} {counter} h m e f =
-    omega (arith, encode-size 10 process (omega arith) (omega arith), encode-size 5 counter (omega arith) (omega arith))
+    omega (arith, size-most process h, size-most counter m)

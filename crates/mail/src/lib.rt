@@ -11,6 +11,7 @@ ghost use Rattle.varint.specs.Sequence.{encodeAll};
 ghost use Rattle.consistency.specs.Known.{counters};
 ghost use Rattle.message.specs.Layout.{pairsTo, headNumbers, messageBytes};
 ghost use Rattle.mail.specs.Outgoing.{messageTo, bytesTo, mail, lengths, roomQuestion, sentBytes, sentLengths};
+ghost use Rattle.mail.specs.Sizes.{headMost, pairsMost, messageMost};
 
 // The messages of one step: one head for all, who gets one, and for each of them a row of news.
 pub struct Outgoing {
@@ -28,7 +29,7 @@ pub struct Sent {
 // How many bytes the numbers of a head take. The bounds on sizes are there for the sums to fit.
 fn head_size(head: Head) -> usize
     ensures { λ r. ⌜ r ≡ length (encodeAll (headNumbers head)) ⌝ }
-    ensures { λ r. ⌜ r ≤ 30 ⌝ }
+    ensures { λ r. ⌜ r ≤ headMost ⌝ }
 {
     let sender = head.sender;
     varint::size_of(head.kind) + varint::size_of(head.purpose) + varint::size_of(sender.0 as u64)
@@ -37,7 +38,7 @@ fn head_size(head: Head) -> usize
 // How many bytes the pairs take.
 fn pairs_size(news: [Count; 16]) -> usize
     ensures { λ r. ⌜ r ≡ length (encodeAll (pairsTo 16 (counters news))) ⌝ }
-    ensures { λ r. ⌜ r ≤ 240 ⌝ }
+    ensures { λ r. ⌜ r ≤ pairsMost ⌝ }
 {
     let mut size = 0;
     let mut p = 0;
@@ -54,7 +55,7 @@ fn pairs_size(news: [Count; 16]) -> usize
 // How many bytes a message takes.
 pub fn message_size(message: Message) -> usize
     ensures { λ r. ⌜ r ≡ length (messageBytes message) ⌝ }
-    ensures { λ r. ⌜ r ≤ 280 ⌝ }
+    ensures { λ r. ⌜ r ≤ messageMost ⌝ }
 {
     let head = message.head;
     let news = message.news;
@@ -120,7 +121,7 @@ pub fn message_to(outgoing: Outgoing, p: usize) -> Message
 pub fn size_to(outgoing: Outgoing, p: usize) -> usize
     requires { ⌜ p < 16 ⌝ }
     ensures { λ r. ⌜ r ≡ length (bytesTo outgoing p) ⌝ }
-    ensures { λ r. ⌜ r ≤ 280 ⌝ }
+    ensures { λ r. ⌜ r ≤ messageMost ⌝ }
 {
     let to = outgoing.to;
     if to[p] {

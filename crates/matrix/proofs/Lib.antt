@@ -1,7 +1,5 @@
 pub mod Rows
 pub mod RowPut
-pub mod Before
-pub mod Sparse
 pub mod Sweep
 pub mod Zeros
 pub mod News

@@ -1,6 +1,6 @@
 -- One entry held, its present value, and news of it.
-use mathlib.Core.Path.{_≡_, refl, sym, _∙_}
-use mathlib.Core.Bool.{Bool, true, false, not, _||_, true≢false}
+use mathlib.Core.Path.{_≡_, sym, _∙_}
+use mathlib.Core.Bool.{Bool, true, false, not, _||_, or-true, true≢false}
 use Prim.Native.Nat.{ℕ, _≤_, _<_}
 use native.Mathlib.Decide.{ℕ-discrete, decLt}
 use native.Mathlib.Omega.{arith}
@@ -18,10 +18,6 @@ lower-mark news held e = rw (eq-eqb news mark e)
 
 pub lower-counter : (news held : ℕ) → news < held → lower news held ≡ true
 lower-counter news held h = rw (lt-ltb news held h) (or-true (not (isNews news)))
-  where
-    or-true : (t : Bool) → (t || true) ≡ true
-    or-true true = refl
-    or-true false = refl
 
 pub not-lower : (news held : ℕ) → (news ≡ mark → ⊥) → held ≤ news → lower news held ≡ false
 not-lower news held ne h = rw (ne-eqb news mark ne, le-ltb news held h)

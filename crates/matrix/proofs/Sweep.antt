@@ -1,6 +1,6 @@
 -- One sweep over all entries of a matrix, instead of row by row or column by column.
 use mathlib.Core.Path.{_≡_, refl, sym, ap, _∙_}
-use mathlib.Core.Bool.{Bool, true, false, not, _&&_, _||_}
+use mathlib.Core.Bool.{Bool, true, false, not, _&&_, _||_, and-true, and-comm}
 use mathlib.Core.List.{List}
 use Prim.Native.Nat.{ℕ, _+_, _*_, _/_, _%_, _≤_, _<_}
 use native.Mathlib.Decide.{ℕ-discrete}
@@ -12,23 +12,12 @@ use lib.ListN.{length, getD, set, replicate, length-set, getD-replicate}
 use lib.Seq.{getD-set-same, getD-set-other}
 use Rattle.book.specs.declared.Count.{Count}
 use Rattle.lists.specs.Over.{allTo}
-use Rattle.lists.proofs.Over.{all-in, all-out, getD-tab, tab-is}
+use Rattle.lists.proofs.Over.{all-in, all-out, all-same, getD-tab, tab-is}
 use Rattle.consistency.specs.Known.{counters}
 use Rattle.matrix.specs.Matrix.{entry, row, column}
 use Rattle.matrix.specs.Entries.{same, noneAbove}
 use Rattle.matrix.specs.Whole.{allNoneAbove, columnsDiffer}
 use Rattle.matrix.proofs.Rows.{counter-of-row}
-
--- two tests of all are one where each follows from the other
-pub all-same : (k m : ℕ) (f g : ℕ → Bool) → (((i : ℕ) → i < k → f i ≡ true) → (i : ℕ) → i < m → g i ≡ true)
-    → (((i : ℕ) → i < m → g i ≡ true) → (i : ℕ) → i < k → f i ≡ true) → allTo k f ≡ allTo m g
-all-same k m f g on back =
-    both-ways (allTo k f) (allTo m g) (λ h. all-out m g (on (all-in k f h))) (λ h. all-out k f (back (all-in m g h)))
-  where
-    both-ways : (a b : Bool) → (a ≡ true → b ≡ true) → (b ≡ true → a ≡ true) → a ≡ b
-    both-ways true b h h′ = sym (h refl)
-    both-ways false true h h′ = h′ refl
-    both-ways false false h h′ = refl
 
 -- ---- no entry above the copy's: the answer for the entries so far
 
@@ -64,19 +53,13 @@ unfolding allTo
 below-none matrix copy = record { within = omega arith; so-far = refl }
 
 module _ (matrix copy : List Count) (below : Bool) (i : ℕ) (b : Below matrix copy below i) where
-  turned : (s t : Bool) → (s && t) ≡ (t && s)
-  turned true true = refl
-  turned true false = refl
-  turned false true = refl
-  turned false false = refl
-
   pub below-next : i < 256 → (next : Bool) → next ≡ (leb (counters matrix i) (counters copy i) && below) → Below matrix copy next (i + 1)
   unfolding allTo
   below-next h next e =
       record {
         within = omega arith;
         so-far = rw add-one
-            (e ∙ turned (notAbove matrix copy i) below ∙ ap (λ (t : Bool). t && notAbove matrix copy i) (b .so-far));
+            (e ∙ and-comm (notAbove matrix copy i) below ∙ ap (λ (t : Bool). t && notAbove matrix copy i) (b .so-far));
       }
 
   pub below-all : 256 ≤ i → below ≡ allNoneAbove matrix copy
@@ -126,10 +109,6 @@ differ-none matrix copy =
     record { within = omega arith; long = refl; so-far = λ p h. getD-replicate 16 p false false h }
 
 module _ (matrix copy : List Count) (flags : List Bool) (i : ℕ) (d : Differ matrix copy flags i) where
-  kept : (s : Bool) → not (s && true) ≡ not s
-  kept true = refl
-  kept false = refl
-
   either-not : (s t : Bool) → (not t || not s) ≡ not (s && t)
   either-not true true = refl
   either-not true false = refl
@@ -161,7 +140,7 @@ module _ (matrix copy : List Count) (flags : List Bool) (i : ℕ) (d : Differ ma
       other p m ne =
           getD-set-other flags (i % 16) p next false ne
           ∙ d .so-far p m
-          ∙ sym (kept (allTo i (sameIn matrix copy p)))
+          ∙ ap not (sym (and-true (allTo i (sameIn matrix copy p))))
           ∙ ap (λ (t : Bool). not (allTo i (sameIn matrix copy p) && t)) (sym (elsewhere matrix copy p i (λ q. ne (sym q))))
 
   pub differ-all : 256 ≤ i → flags ≡ columnsDiffer matrix copy

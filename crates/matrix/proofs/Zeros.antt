@@ -1,6 +1,6 @@
 -- The entries of a row that must be zero: those from a place on, and the one on the diagonal.
-use mathlib.Core.Path.{_≡_, refl, sym, _∙_}
-use mathlib.Core.Bool.{Bool, true, false, _&&_, _||_}
+use mathlib.Core.Path.{_≡_, refl}
+use mathlib.Core.Bool.{Bool, true, false, _||_, and-true}
 use mathlib.Core.List.{List}
 use Prim.Native.Nat.{ℕ, _+_, _≤_, _<_}
 use native.Mathlib.Decide.{ℕ-discrete, decLt}
@@ -8,12 +8,11 @@ use native.Mathlib.Omega.{arith}
 use borrow.Author.Tests.{lt-ltb, le-ltb, eq-eqb, ne-eqb}
 use lib.Dec.{ltb, eqb}
 use Rattle.book.specs.declared.Count.{Count}
-use Rattle.lists.proofs.Over.{all-out, all-not}
+use Rattle.lists.proofs.Over.{all-out, all-not, all-ext}
 use Rattle.consistency.specs.Known.{counters}
-use Rattle.lists.proofs.Fills.{below-more}
+use Rattle.lists.proofs.Before.{below-more}
 use Rattle.matrix.specs.Matrix.{isPair}
 use Rattle.matrix.specs.Entries.{zeroFrom, restZero}
-use Rattle.matrix.proofs.Sweep.{all-same}
 
 -- what `zeroFrom` asks of one entry
 abbrev zeroAt : ℕ → List Count → ℕ → Bool
@@ -53,13 +52,9 @@ module _ (n j : ℕ) (a : List Count) where
   abbrev rest : ℕ → Bool
   rest p = isPair n j p || eqb (counters a p) 0
 
-  kept : (t u : Bool) → ((t && true) || u) ≡ (t || u)
-  kept true u = refl
-  kept false u = refl
-
   from-place : (from : ℕ) → ((p : ℕ) → p < 16 → rest p ≡ zeroAt from a p) → restZero n j a ≡ zeroFrom from a
   unfolding restZero zeroFrom
-  from-place from e = all-same 16 16 rest (zeroAt from a) (λ h p m. sym (e p m) ∙ h p m) (λ h p m. e p m ∙ h p m)
+  from-place from e = all-ext 16 rest (zeroAt from a) e
 
   -- all, where j is absent
   pub rest-absent : n ≤ j → restZero n j a ≡ zeroFrom 0 a
@@ -76,7 +71,7 @@ module _ (n j : ℕ) (a : List Count) where
                 let z : counters a p ≡ 0 = rw e at (zero-there (omega arith)) in
                 let there : p < n = omega arith in
                 rw (lt-ltb j n h, lt-ltb p n there, eq-eqb j p e, eq-eqb (counters a p) 0 z)
-            | no ne ↦ rw (lt-ltb j n h, ne-eqb j p ne) (kept (ltb p n) (eqb (counters a p) 0))
+            | no ne ↦ rw (lt-ltb j n h, ne-eqb j p ne, and-true (ltb p n))
           ]
 
   pub rest-fails : j < n → j < 16 → (counters a j ≡ 0 → ⊥) → restZero n j a ≡ false

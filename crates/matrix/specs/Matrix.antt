@@ -1,7 +1,7 @@
 -- Document 01, "A search": what is known of sent counters. A row of sixteen entries, one for each process, and a matrix of
 -- sixteen rows: "for every ordered pair, the sender's candidate's sent counter or 'not known'". Senders go down, receivers
 -- across; processes count from 0.
-use mathlib.Core.Bool.{Bool, true, false, _&&_, not}
+use mathlib.Core.Bool.{Bool, _&&_, not}
 use mathlib.Core.List.{List}
 use Prim.Native.Nat.{ℕ, _+_, _*_, _/_, _%_}
 use lib.Dec.{ltb, eqb}

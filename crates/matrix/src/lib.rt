@@ -17,7 +17,7 @@ ghost use Rattle.matrix.specs.Matrix.{row, column, withRow, isPair, notK
 ghost use Rattle.matrix.specs.Entries.{differing, changed, diff, patch, same, zeroFrom, restZero, allLower};
 
 // The mark for "not known", as an entry.
-pub const NOT_KNOWN: Counter = 4294967295;
+pub const NOT_KNOWN: Counter = book::MARK as Counter;
 
 // How many entries a matrix has.
 pub const ENTRIES: usize = 256;

@@ -1,4 +1,4 @@
 pub mod Pairs
 pub mod Heads
-pub mod PairTurns
+pub mod PairLoop
 pub mod Messages

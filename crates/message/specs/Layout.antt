@@ -5,10 +5,10 @@
 -- counter is never the mark, so they are a row of sixteen entries, with the mark for each process that no pair names.
 use mathlib.Core.Bool.{Bool, true, false}
 use mathlib.Core.List.{List, [], _∷_, _++_}
-use Prim.Native.Nat.{ℕ, zero, suc}
+use Prim.Native.Nat.{ℕ, zero, suc, _+_, _-_, _*_}
 use Rattle.varint.specs.Sequence.{encodeAll}
 use Rattle.book.specs.declared.Count.{Count}
-use Rattle.book.specs.Bounds.{mark, mostProcesses}
+use Rattle.book.specs.Bounds.{groups, mark, mostProcesses}
 use Rattle.lists.specs.Over.{sumTo}
 use Rattle.consistency.specs.Known.{counters}
 use Rattle.lists.specs.Pick.{pick}
@@ -45,6 +45,17 @@ messageNumbers m = headNumbers (m .head) ++ pairCount (m .news) ∷ pairsTo most
 -- a message's bytes
 unfoldable pub messageBytes : Message → List ℕ
 messageBytes m = encodeAll (messageNumbers m)
+
+-- the most bytes of the four numbers before the pairs, each below 128, and of a pair: a process of one byte, and a counter
+abbrev pub headSize : ℕ
+headSize = 4
+
+abbrev pub pairSize : ℕ
+pairSize = 1 + groups
+
+-- the longest message among n processes: no pair names the participant at whose end of the strand it is read or written
+abbrev pub longestMessage : ℕ → ℕ
+longestMessage n = headSize + (n - 1) * pairSize
 
 -- no pairs
 abbrev pub noNews : List Count

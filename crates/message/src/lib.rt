@@ -4,11 +4,17 @@ use book::Counter;
 use book::Process;
 use varint::Numeral;
 ghost use mathlib.Core.Path.{_≡_};
-ghost use Prim.Native.Nat.{_≤_};
+ghost use Prim.Native.Nat.{_≤_, _<_};
+ghost use Rattle.book.specs.Bounds.{mark};
 ghost use Rattle.message.specs.Layout.{pairCount};
 ghost use Rattle.message.specs.Formed.{headFormed, participantEnd, pairFormed, invitationFormed, messageFormed};
 ghost use Rattle.message.specs.Read.{noMessage, messageRead};
 ghost use Rattle.message.specs.Parts.{HeadFound, CountedFound, PairsFound};
+
+// The most bytes of the four numbers before a message's pairs, and of a pair: a process of one byte, and a counter.
+pub const HEAD_SIZE: usize = 4;
+
+pub const PAIR_SIZE: usize = 1 + book::GROUPS as usize;
 
 // What stands before the pairs of a message.
 pub struct Head {
@@ -119,6 +125,14 @@ fn pair_formed(n: usize, end: Process, last: u64, process: u64, counter: u64) ->
     counter < book::MARK
 }
 
+// A pair's counter as an entry.
+fn entry(counter: u64) -> Count
+    requires { ⌜ counter < mark ⌝ }
+    ensures { λ r. ⌜ r .0 ≡ counter ⌝ }
+{
+    Count(counter as Counter)
+}
+
 // So many pairs from a place on, up to the end of the bytes; none names the participant `end`.
 fn read_counted(s: &[u8], at: usize, n: usize, end: Process, count: u64) -> PairsRead
     requires { ⌜ n ≤ 16 ⌝ }
@@ -158,7 +172,7 @@ fn read_counted(s: &[u8], at: usize, n: usize, end: Process, count: u64) -> Pair
             };
         }
         let place = process as usize - 1;
-        news[place] = Count(counter as Counter);
+        news[place] = entry(counter);
         last = process;
         next = after;
         k += 1;

@@ -13,8 +13,10 @@ use lib.Dec.{ltb, leb, eqb}
 use Rattle.varint.specs.Number.{encode}
 use Rattle.varint.specs.Sequence.{encodeAll}
 use Rattle.varint.proofs.Encode.{encode-last, encode-size}
-use Rattle.book.specs.Bounds.{mark}
+use Rattle.book.specs.Bounds.{groups, largest, mark}
+use Rattle.book.proofs.Bounds.{groups-some, largest-fits, mark-most}
 use Rattle.lists.proofs.Tests.{and-both, both-and}
+use Rattle.message.specs.Layout.{pairSize}
 use Rattle.message.specs.Formed.{pairFormed, pairsFormed}
 
 -- ---- one pair
@@ -128,23 +130,23 @@ pub most-cons : (m v : ℕ) (l : List ℕ) → v ≤ m → AtMost m l → AtMost
 most-cons m v l h k zero b = h
 most-cons m v l h k (suc i) b = k i (omega arith)
 
-pub formed-most : (n end last count : ℕ) (xs : List ℕ) → n ≤ mark → pairsFormed n end last count xs ≡ true → AtMost mark xs
+pub formed-most : (n end last count : ℕ) (xs : List ℕ) → n ≤ largest → pairsFormed n end last count xs ≡ true → AtMost largest xs
 formed-most n end last count xs few =
-    formed-induction n end (λ l c ys. AtMost mark ys) (λ l i b. absurd (omega arith))
+    formed-induction n end (λ l c ys. AtMost largest ys) (λ l i b. absurd (omega arith))
     (λ l c p v ys pair ih.
-    most-cons mark p (v ∷ ys) (omega (arith, pair .most)) (most-cons mark v ys (omega (arith, pair .known)) ih))
+    most-cons largest p (v ∷ ys) (omega (arith, pair .most)) (most-cons largest v ys (omega (arith, pair .known, mark-most)) ih))
     last count xs
 
--- a process below 128 takes one byte, a counter at most five
+-- a process below 128 takes one byte, a counter at most as many as there are groups
 pub formed-bytes : (n end last count : ℕ) (xs : List ℕ) → n < 128 → pairsFormed n end last count xs ≡ true
-    → length (encodeAll xs) ≤ count * 6
+    → length (encodeAll xs) ≤ count * pairSize
 unfolding encodeAll
 formed-bytes n end last count xs few =
-    formed-induction n end (λ l c ys. length (encodeAll ys) ≤ c * 6) (λ l. omega arith) (λ l c p v ys pair ih. more l c p v ys pair ih)
+    formed-induction n end (λ l c ys. length (encodeAll ys) ≤ c * pairSize) (λ l. omega arith) (λ l c p v ys pair ih. more l c p v ys pair ih)
     last count xs
   where
-    more : (l c p v : ℕ) (ys : List ℕ) → Pair n end l p v → length (encodeAll ys) ≤ c * 6 → length (encodeAll (p ∷ v ∷ ys)) ≤ suc c * 6
+    more : (l c p v : ℕ) (ys : List ℕ) → Pair n end l p v → length (encodeAll ys) ≤ c * pairSize → length (encodeAll (p ∷ v ∷ ys)) ≤ suc c * pairSize
     more l c p v ys pair ih =
         let process : p < 128 = omega (arith, pair .most) in
-        let counter : length (encode v) ≤ 5 = encode-size 5 v (omega arith) (omega (arith, pair .known)) in
+        let counter : length (encode v) ≤ groups = encode-size groups v groups-some (omega (arith, pair .known, mark-most, largest-fits)) in
         rw (encode-last p process, length-append (encode v) (encodeAll ys)) (omega arith)

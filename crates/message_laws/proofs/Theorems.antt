@@ -8,7 +8,7 @@ use native.Mathlib.Omega.{arith}
 use lib.ListN.{length}
 use Rattle.varint.specs.Sequence.{Numbers, encodeAll}
 use Rattle.message.specs.declared.Message.{Message}
-use Rattle.message.specs.Layout.{pairCount, messageNumbers, messageBytes}
+use Rattle.message.specs.Layout.{pairCount, messageNumbers, messageBytes, headSize, pairSize}
 use Rattle.message.specs.Formed.{participantEnd, messageOf, numbersFormed, numbersIn, messageFormed}
 use Rattle.message_laws.specs.Formed.{IsFormed}
 use Rattle.message_laws.specs.Statements.{WrittenIsRead, ReadIsWritten, ReadIsFormed, Longest}
@@ -52,5 +52,5 @@ read-is-formed n me initiator s few formed =
 pub longest : Longest
 longest n end m few from to formed =
     let pairs : pairCount (m .news) < n = count-few n end m few formed from to in
-    let bytes : length (messageBytes m) ≤ 4 + pairCount (m .news) * 6 = bytes-few n end m few formed in
+    let bytes : length (messageBytes m) ≤ headSize + pairCount (m .news) * pairSize = bytes-few n end m few formed in
     omega arith

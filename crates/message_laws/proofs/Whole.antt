@@ -15,11 +15,12 @@ use Rattle.varint.specs.Sequence.{encodeAll}
 use Rattle.varint.proofs.Encode.{encode-last}
 use Rattle.varint.proofs.Sequence.{scan-encodeAll, encodeAll-scan}
 use Rattle.book.specs.declared.Count.{Count}
-use Rattle.book.specs.Bounds.{mark}
+use Rattle.book.specs.Bounds.{groups, largest}
+use Rattle.book.proofs.Bounds.{groups-some, largest-fits}
 use Rattle.lists.proofs.Tests.{and-both, both-and}
 use Rattle.consistency.specs.Known.{counters}
 use Rattle.message.specs.declared.Message.{Message}
-use Rattle.message.specs.Layout.{pairsTo, pairCount, messageNumbers, messageBytes}
+use Rattle.message.specs.Layout.{pairsTo, pairCount, messageNumbers, messageBytes, headSize, pairSize}
 use Rattle.book.specs.Names.{isPurpose, isNamed}
 use Rattle.message.specs.Formed.{isKind, headFormed, participantEnd, pairsFormed, invitationFormed, countedFormed, messageOf, beginFormed, numbersFormed, numbersIn, messageFormed}
 use Rattle.message.specs.Read.{messageRead}
@@ -91,26 +92,26 @@ module _ (n end : ℕ) (m : Message) (few : n ≤ 16) (formed : IsFormed n end m
       let invited : invitationFormed (messageOf ns) ≡ true = ap invitationFormed message-back ∙ formed .invitation in
       rw (counted, invited, formed .head)
 
-  numbers-most : AtMost mark (messageNumbers m)
+  numbers-most : AtMost largest (messageNumbers m)
   numbers-most =
       let xs : List ℕ = pairsTo 16 (counters (m .news)) in
-      most-cons mark (m .head .kind) (m .head .purpose ∷ m .head .sender .0 ∷ pairCount (m .news) ∷ xs) (omega (arith, small .0))
-      (most-cons mark (m .head .purpose) (m .head .sender .0 ∷ pairCount (m .news) ∷ xs) (omega (arith, small .1))
-      (most-cons mark (m .head .sender .0) (pairCount (m .news) ∷ xs) (omega (arith, small .2))
-      (most-cons mark (pairCount (m .news)) xs (omega (arith, count-most))
+      most-cons largest (m .head .kind) (m .head .purpose ∷ m .head .sender .0 ∷ pairCount (m .news) ∷ xs) (omega (arith, small .0))
+      (most-cons largest (m .head .purpose) (m .head .sender .0 ∷ pairCount (m .news) ∷ xs) (omega (arith, small .1))
+      (most-cons largest (m .head .sender .0) (pairCount (m .news) ∷ xs) (omega (arith, small .2))
+      (most-cons largest (pairCount (m .news)) xs (omega (arith, count-most))
       (formed-most n end 0 (pairCount (m .news)) xs (omega arith) pairs-are))))
 
   -- the numbers are found in the bytes
   pub bytes-found : numbersIn (messageBytes m) ≡ record { found = messageNumbers m; stop = length (messageBytes m) }
   unfolding messageBytes
-  bytes-found = scan-encodeAll 5 4294967295 (messageNumbers m) (omega arith) (omega arith) numbers-most
+  bytes-found = scan-encodeAll groups largest (messageNumbers m) groups-some largest-fits numbers-most
 
   -- four numbers of one byte, and the pairs
-  pub bytes-few : length (messageBytes m) ≤ 4 + pairCount (m .news) * 6
+  pub bytes-few : length (messageBytes m) ≤ headSize + pairCount (m .news) * pairSize
   unfolding messageBytes encodeAll
   bytes-few =
       let xs : List ℕ = pairsTo 16 (counters (m .news)) in
-      let long : length (encodeAll xs) ≤ pairCount (m .news) * 6 = formed-bytes n end 0 (pairCount (m .news)) xs (omega arith) pairs-are in
+      let long : length (encodeAll xs) ≤ pairCount (m .news) * pairSize = formed-bytes n end 0 (pairCount (m .news)) xs (omega arith) pairs-are in
       rw (
         encode-last (m .head .kind) (omega (arith, small .0)),
         encode-last (m .head .purpose) (omega (arith, small .1)),
@@ -191,6 +192,6 @@ read-is n me initiator s h = rw h
 -- the numbers that are found up to the end are the bytes
 pub found-bytes : (s : List ℕ) → T (areBytes s) → numbersIn s .stop ≡ length s → encodeAll (numbersIn s .found) ≡ s
 found-bytes s t stop =
-    sym (encodeAll-scan 5 4294967295 s 0 t
+    sym (encodeAll-scan groups largest s 0 t
     ∙ (ap (λ (k : ℕ). encodeAll (numbersIn s .found) ++ drop k s) stop
     ∙ (ap (λ (l : List ℕ). encodeAll (numbersIn s .found) ++ l) (drop-length s) ∙ append-nil (encodeAll (numbersIn s .found)))))

@@ -3,13 +3,13 @@
 use mathlib.Core.Path.{_≡_}
 use mathlib.Core.Bool.{true}
 use mathlib.Core.List.{List}
-use Prim.Native.Nat.{ℕ, _+_, _-_, _*_, _≤_}
+use Prim.Native.Nat.{ℕ, _≤_}
 use lib.ListN.{length}
 use lib.Dec.{T}
 use lib.Pow.{areBytes}
 use Rattle.book.specs.Bounds.{mostProcesses}
 use Rattle.message.specs.declared.Message.{Message}
-use Rattle.message.specs.Layout.{messageBytes}
+use Rattle.message.specs.Layout.{messageBytes, longestMessage}
 use Rattle.message.specs.Formed.{participantEnd, messageFormed}
 use Rattle.message.specs.Read.{messageRead}
 use Rattle.message_laws.specs.Formed.{IsFormed}
@@ -33,8 +33,8 @@ ReadIsFormed =
     (n me initiator : ℕ) (s : List ℕ) → n ≤ mostProcesses → messageFormed n me initiator s ≡ true
     → let m : Message = messageRead n me initiator s in IsFormed n (participantEnd me initiator (m .head .sender .0)) m
 
--- The longest message: four numbers of one byte, and n − 1 pairs of a process of one byte and a counter of at most five.
+-- The longest message: four numbers of one byte, and n − 1 pairs of a process of one byte and a counter.
 abbrev pub Longest : Type 0
 Longest =
     (n end : ℕ) (m : Message) → n ≤ mostProcesses → 1 ≤ end → end ≤ n → IsFormed n end m
-    → length (messageBytes m) ≤ 4 + (n - 1) * 6
+    → length (messageBytes m) ≤ longestMessage n

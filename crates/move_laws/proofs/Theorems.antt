@@ -6,7 +6,7 @@ use mathlib.Core.Logic.{_⊎_, inl, inr}
 use Prim.Native.Nat.{ℕ, _<_}
 use native.Mathlib.Omega.{arith}
 use lib.ListN.{length}
-use Rattle.book.specs.declared.Shape.{Shape}
+use Rattle.book.specs.Lent.{Tables}
 use Rattle.book.specs.declared.WriteAnswer.the-variants.{Length}
 use Rattle.book.specs.Check.{tablesQuestion}
 use Rattle.book.specs.Tables.{shapeOf, sentTable, receivedTable}
@@ -29,7 +29,7 @@ use Rattle.restart.proofs.Purposes.{three-purposes, advance-is, restart-is}
 use Rattle.restart.proofs.Values.{number-none, present-all}
 use Rattle.restart.proofs.Orders.{move-passes, purpose-passes}
 use Rattle.restart.proofs.Orders as orders
-use Rattle.move_laws.specs.Moves.{Move, IsAccepted, Advances, Restarts, viewBefore, shapeAfter, sentAfter, receivedAfter, viewAfter, withPurpose, again}
+use Rattle.move_laws.specs.Moves.{Move, IsAccepted, Advances, Restarts, viewBefore, viewAfter, withPurpose, again, tablesAfter}
 use Rattle.move_laws.specs.Statements.{
   MovedIsAccepted,
   MovedPassesRead,
@@ -76,20 +76,18 @@ moved-is-accepted m accepted = (accepted-after m accepted, same-size m accepted)
 -- written to a buffer that they just fit, and read again
 pub moved-passes-read : MovedPassesRead
 moved-passes-read m into into′ accepted l l′ =
-    let shape : Shape = shapeAfter m in
-    let s : List ℕ = sentAfter m in
-    let r : List ℕ = receivedAfter m in
-    let bytes : List ℕ = bytesOf shape s r in
-    let given : answerToWrite shape s r bytes ≡ Length (length bytes)
-    = answer-given shape s r bytes (write-given shape s r bytes (accepted-after m accepted .passed) (omega arith)) in
-    rw (bytes-left shape s r bytes (length bytes) given) at
-    (written-then-read shape s r bytes into into′ (length bytes) (accepted-after m accepted .sixteen) l l′ given)
+    let t : Tables = tablesAfter m in
+    let bytes : List ℕ = bytesOf t in
+    let given : answerToWrite t bytes ≡ Length (length bytes)
+    = answer-given t bytes (write-given t bytes (accepted-after m accepted .passed) (omega arith)) in
+    rw (bytes-left t bytes (length bytes) given) at
+    (written-then-read t bytes into into′ (length bytes) (accepted-after m accepted .sixteen) l l′ given)
 
 pub falls-exactly : FallsExactly
 unfolding planned
 falls-exactly m j r p accepted at =
-    let h : j < m .shape .n = rw (same-size m accepted) at (at .process) in
-    rw (orders.before-at (m .shape) (m .sent) (m .received) (m .purpose) (accepted .passed) j h) (
+    let h : j < m .tables .shape .n = rw (same-size m accepted) at (at .process) in
+    rw (orders.before-at (m .tables) (m .purpose) (accepted .passed) j h) (
       sent-back (viewBefore m) (shows-before m accepted) (book-before m accepted) (planOfMove m) (move-is-plan m accepted) (viewAfter m)
           (view-after m accepted) (book-after m accepted) j r p at,
       received-back (viewBefore m) (shows-before m accepted) (book-before m accepted) (planOfMove m) (move-is-plan m accepted) (viewAfter m)
@@ -105,13 +103,13 @@ they-stay m j p accepted two h o =
     (shows-before m accepted .oldest-sent j p h o, shows-before m accepted .oldest-received j p h o)
 
 -- where only one is kept, the line is that one
-kept-is-line : (m : Move) (j : ℕ) (accepted : IsAccepted m) → Restarts m → j < m .shape .n → line (viewAfter m) j ≡ 1
+kept-is-line : (m : Move) (j : ℕ) (accepted : IsAccepted m) → Restarts m → j < m .tables .shape .n → line (viewAfter m) j ≡ 1
 kept-is-line m j accepted yes′ h =
     let there = line-is-line _ (viewAfter m) (book-after m accepted) .is-set in
     let h′ = still-there m accepted j h in
     omega (arith, there .some j h′, there .among j h′, one-is-kept m j accepted yes′ h)
 
-advanced-is-line : (m : Move) (j : ℕ) (accepted : IsAccepted m) → Advances m → j < m .shape .n → line (viewAfter m) j ≡ 1
+advanced-is-line : (m : Move) (j : ℕ) (accepted : IsAccepted m) → Advances m → j < m .tables .shape .n → line (viewAfter m) j ≡ 1
 advanced-is-line m j accepted yes′ h =
     let v : View = viewBefore m in
     let found : IsLine v (planOfMove m .line)
@@ -120,7 +118,7 @@ advanced-is-line m j accepted yes′ h =
     (view-after m accepted) (book-after m accepted) j (still-there m accepted j h)
 
 pub line-is-oldest : LineIsOldest
-line-is-oldest m j accepted h = go (three-purposes (m .purpose) (purpose-passes (m .shape) (m .sent) (m .received) (m .purpose) (accepted .passed)))
+line-is-oldest m j accepted h = go (three-purposes (m .purpose) (purpose-passes (m .tables) (m .purpose) (accepted .passed)))
   where
     go : (m .purpose ≡ 2) ⊎ Advances m → line (viewAfter m) j ≡ 1
     go (inl two) = kept-is-line m j accepted (inl two) h
@@ -129,7 +127,7 @@ line-is-oldest m j accepted h = go (three-purposes (m .purpose) (purpose-passes 
 again-accepted : (m : Move) (purpose : ℕ) → IsAccepted m → isPurpose purpose ≡ true → IsAccepted (again m purpose)
 again-accepted m purpose accepted is = record {
   sixteen = accepted-after m accepted .sixteen;
-  passed = move-passes (shapeAfter m) (sentAfter m) (receivedAfter m) purpose (accepted-after m accepted .passed) is;
+  passed = move-passes (tablesAfter m) purpose (accepted-after m accepted .passed) is;
 }
 
 pub again-is-same : AgainIsSame
@@ -138,7 +136,7 @@ again-is-same m accepted =
     let accepted′ : IsAccepted (again m 1) = again-accepted m 1 accepted refl in
     let one : (j : ℕ) → j < w .n → line w j ≡ 1 = λ j h. line-is-oldest m j accepted (rw (same-size m accepted) at h) in
     let same : bookShown (moved w 1) ≡ bookShown w = same-book (moved w 1) w (moved-to-one w (shows-after m accepted) one) in
-    let held = tables-shown (shapeAfter m) (sentAfter m) (receivedAfter m) (accepted-after m accepted) in (
+    let held = tables-shown (tablesAfter m) (accepted-after m accepted) in (
       accepted′,
       shape-after (again m 1) accepted′ ∙ ap shapeOf same ∙ held .0,
       sent-after (again m 1) accepted′ ∙ ap sentTable same ∙ held .1,
@@ -152,7 +150,7 @@ pub none-sent : NoneSent
 none-sent m j p accepted h o = shows-after m accepted .oldest-sent j p (still-there m accepted j h) (still-there m accepted p o)
 
 -- books of as many processes that keep one checkpoint each are the same
-one-each : (m o : Move) (accepted : IsAccepted m) (accepted′ : IsAccepted o) → Restarts m → Restarts o → m .shape .n ≡ o .shape .n
+one-each : (m o : Move) (accepted : IsAccepted m) (accepted′ : IsAccepted o) → Restarts m → Restarts o → m .tables .shape .n ≡ o .tables .shape .n
     → SameCounters (viewAfter m) (viewAfter o)
 one-each m o accepted accepted′ r r′ size = record {
   n = same-size m accepted ∙ size ∙ sym (same-size o accepted′);
@@ -167,10 +165,10 @@ one-each m o accepted accepted′ r r′ size = record {
       (none-received o j p accepted′ (there j (at .process)) (there p (at .partner)));
 }
   where
-    here : (j : ℕ) → j < viewAfter m .n → j < m .shape .n
+    here : (j : ℕ) → j < viewAfter m .n → j < m .tables .shape .n
     here j h = rw (same-size m accepted) at h
 
-    there : (j : ℕ) → j < viewAfter m .n → j < o .shape .n
+    there : (j : ℕ) → j < viewAfter m .n → j < o .tables .shape .n
     there j h = rw size at (here j h)
 
     only : (j k p : ℕ) → IsCounter (viewAfter m) j k p → k ≡ 1
@@ -185,14 +183,14 @@ three-is-one-then-two m accepted three =
     let accepted₁ : IsAccepted first =
     record {
       sixteen = accepted .sixteen;
-      passed = move-passes (m .shape) (m .sent) (m .received) 1 (accepted-before m accepted .passed) refl;
+      passed = move-passes (m .tables) 1 (accepted-before m accepted .passed) refl;
     } in
     let both : Move = again first 2 in
     let accepted₂ : IsAccepted both = again-accepted first 2 accepted₁ refl in
     let same = same-book (viewAfter m) (viewAfter both)
     (one-each m both accepted accepted₂ (inr three) (inl refl) (sym (same-size first accepted₁))) in
-    let held = tables-shown (shapeAfter m) (sentAfter m) (receivedAfter m) (accepted-after m accepted) in
-    let held′ = tables-shown (shapeAfter both) (sentAfter both) (receivedAfter both) (accepted-after both accepted₂) in (
+    let held = tables-shown (tablesAfter m) (accepted-after m accepted) in
+    let held′ = tables-shown (tablesAfter both) (accepted-after both accepted₂) in (
       sym (held .0) ∙ ap shapeOf same ∙ held′ .0,
       sym (held .1) ∙ ap sentTable same ∙ held′ .1,
       sym (held .2) ∙ ap receivedTable same ∙ held′ .2,
@@ -202,33 +200,33 @@ three-is-one-then-two m accepted three =
 
 pub adds-up : AddsUp
 adds-up m j accepted h =
-    rw (orders.before-at (m .shape) (m .sent) (m .received) (m .purpose) (accepted .passed) j h, orders.after-at (m .shape) (m .sent) (m .received) (m .purpose) (accepted .passed) j h, count-after m accepted j h) (move-is-plan m accepted .adds-up j h)
+    rw (orders.before-at (m .tables) (m .purpose) (accepted .passed) j h, orders.after-at (m .tables) (m .purpose) (accepted .passed) j h, count-after m accepted j h) (move-is-plan m accepted .adds-up j h)
 
 pub none-go : NoneGo
 unfolding planned
 none-go m j accepted = (
-  λ e. rw (orders.order-after (m .shape) (m .sent) (m .received) (m .purpose) (accepted .passed)) (number-none (m .shape .n) (planOfMove m .after) j (rw e)),
-  λ e. rw (orders.order-before (m .shape) (m .sent) (m .received) (m .purpose) (accepted .passed)) (number-none (m .shape .n) (planOfMove m .before) j (rw e)),
+  λ e. rw (orders.order-after (m .tables) (m .purpose) (accepted .passed)) (number-none (m .tables .shape .n) (planOfMove m .after) j (rw e)),
+  λ e. rw (orders.order-before (m .tables) (m .purpose) (accepted .passed)) (number-none (m .tables .shape .n) (planOfMove m .before) j (rw e)),
 )
 
 pub order-is-line : OrderIsLine
 unfolding lineFound
 order-is-line m accepted yes′ =
     let v : View = viewBefore m in
-    orders.order-from (m .shape) (m .sent) (m .received) (m .purpose) (accepted .passed)
-    ∙ ap (λ (c : ℕ → ℕ). checkpoints (present (m .shape .n) c)) (planned-line v (m .purpose) (advance-is (m .purpose) yes′))
-    ∙ ap checkpoints (present-all (m .shape .n) (line v) (line-absent v))
-    ∙ sym (kept-passed (tablesQuestion (m .shape) (m .sent) (m .received)) noLine (checkpoints (line v)) (accepted-before m accepted .passed))
+    orders.order-from (m .tables) (m .purpose) (accepted .passed)
+    ∙ ap (λ (c : ℕ → ℕ). checkpoints (present (m .tables .shape .n) c)) (planned-line v (m .purpose) (advance-is (m .purpose) yes′))
+    ∙ ap checkpoints (present-all (m .tables .shape .n) (line v) (line-absent v))
+    ∙ sym (kept-passed (tablesQuestion (m .tables)) noLine (checkpoints (line v)) (accepted-before m accepted .passed))
 
 pub order-is-oldest : OrderIsOldest
 unfolding planned
-order-is-oldest m accepted two = orders.order-from (m .shape) (m .sent) (m .received) (m .purpose) (accepted .passed) ∙ rw two
+order-is-oldest m accepted two = orders.order-from (m .tables) (m .purpose) (accepted .passed) ∙ rw two
 
 pub goes-around : GoesAround
 goes-around m j accepted h =
-    let from = orders.from-at (m .shape) (m .sent) (m .received) (m .purpose) (accepted .passed) j h in
-    let before = orders.before-at (m .shape) (m .sent) (m .received) (m .purpose) (accepted .passed) j h in
-    let after = orders.after-at (m .shape) (m .sent) (m .received) (m .purpose) (accepted .passed) j h in
+    let from = orders.from-at (m .tables) (m .purpose) (accepted .passed) j h in
+    let before = orders.before-at (m .tables) (m .purpose) (accepted .passed) j h in
+    let after = orders.after-at (m .tables) (m .purpose) (accepted .passed) j h in
     let plan = move-is-plan m accepted in (
       rw (from, before) (plan .before j h),
       λ yes′.

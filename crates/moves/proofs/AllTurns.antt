@@ -23,7 +23,7 @@ use Rattle.matrix.proofs.Rows.{counter-of-row}
 use Rattle.shown.specs.Rows.{rowsTo, allRowsTo}
 use Rattle.moves.specs.Parts.{Movable, rowsMoved}
 use Rattle.moves.proofs.Rows.{length-rows, rows-same, all-rows-same}
-use Rattle.moves.proofs.Places.{read-after}
+use Rattle.lists.proofs.Stores.{getD-past}
 use Rattle.moves.proofs.ProcessTurns.{rowOf}
 
 -- the rows that are kept of process j begin at this row
@@ -67,7 +67,7 @@ module _ (table₀ : List ℕ) (off : List Count) (line : List Checkpoint) (kept
     old r p l =
         let at : ℕ = (fromRow first line j + (r - 1)) * 16 + p in
         ap₂ (λ (a b : ℕ). a - b)
-        (ap (λ (t : List ℕ). getD t at 0) (inv .present) ∙ read-after done table₀ 0 at (omega (arith, inv .long, inv .behind h)))
+        (ap (λ (t : List ℕ). getD t at 0) (inv .present) ∙ getD-past done table₀ 0 at (omega (arith, inv .long, inv .behind h)))
         (ap (λ (t : List Count). counters t p) is-own ∙ counter-of-row (λ q. entry off j q) p l)
 
     next : rowsTo (rowOf table (fromRow first line j) own) (getD kept j 0) ≡ rowsTo (keptEntry first table₀ line off j) (getD kept j 0)

@@ -12,7 +12,8 @@ use Rattle.book.specs.View.{firstRows}
 use Rattle.book.specs.InTurn.{answerTo}
 use Rattle.book.proofs.Questions.{answer-passed, answer-refused, kept-passed, kept-refused}
 use Rattle.line_theory.specs.OfTables.{viewOf}
-use Rattle.shown.specs.Statements.{AreAccepted}
+use Rattle.book.specs.Lent.{Tables}
+use Rattle.book.specs.Accepted.{AreAccepted}
 use Rattle.restart.specs.declared.Order.{Order}
 use Rattle.restart.specs.declared.Plan.{Plan}
 use Rattle.restart.specs.Plan.{planned}
@@ -23,62 +24,62 @@ use Rattle.plans.proofs.Asked.{order-refused}
 use Rattle.moves.specs.Parts.{rowsMoved}
 use Rattle.moves.proofs.Joined.{sent-moved, received-moved, shape-moved}
 
-module _ (shape : Shape) (sent received : List ℕ) (purpose : ℕ) where
+module _ (t : Tables) (purpose : ℕ) where
   abbrev question : ℕ
-  question = moveQuestion shape sent received purpose
+  question = moveQuestion t purpose
 
   abbrev book : Book
-  book = bookMoved shape sent received purpose
+  book = bookMoved t purpose
 
   -- the five promises
   abbrev Kept : Answer → Shape → Order → List ℕ → List ℕ → Type 0
   Kept answer shape′ order sent′ received′ =
       (answer ≡ answerTo question)
-      × ((shape′ ≡ shapeMoved shape sent received purpose)
-      × ((order ≡ orderGiven shape sent received purpose)
-      × ((sent′ ≡ sentMoved shape sent received purpose) × (received′ ≡ receivedMoved shape sent received purpose))))
+      × ((shape′ ≡ shapeMoved t purpose)
+      × ((order ≡ orderGiven t purpose)
+      × ((sent′ ≡ sentMoved t purpose) × (received′ ≡ receivedMoved t purpose))))
 
   -- a question fails: all is as it was
-  pub refused : (q : ℕ) → q ≡ question → (q ≡ 0 → ⊥) → (order : Order) → order ≡ noOrder → Kept (Refused q) shape order sent received
+  pub refused : (q : ℕ) → q ≡ question → (q ≡ 0 → ⊥) → (order : Order) → order ≡ noOrder → Kept (Refused q) (t .shape) order (t .sent) (t .received)
   unfolding shapeMoved sentMoved receivedMoved
   refused q asked fails order none =
       let some : (question ≡ 0 → ⊥) = λ e. fails (asked ∙ e) in (
         ap Refused asked ∙ sym (answer-refused question some),
         (
-          sym (kept-refused question shape (shapeOf book) some),
+          sym (kept-refused question (t .shape) (shapeOf book) some),
           (
-            none ∙ order-refused shape sent received purpose some,
-            (sym (kept-refused question sent (sentTable book) some), sym (kept-refused question received (receivedTable book) some)),
+            none ∙ order-refused t purpose some,
+            (sym (kept-refused question (t .sent) (sentTable book) some), sym (kept-refused question (t .received) (receivedTable book) some)),
           ),
         ),
       )
 
-  module _ (accepted : AreAccepted shape sent received) (none : question ≡ 0) (rows : TableRows) (same : rows .shape ≡ shape)
-      (starts : rows .first ≡ firstRows (shape .counts)) (plan : Plan) (made : plan ≡ planOf (shape .n) (planned (viewOf shape sent received) purpose))
+  module _ (accepted : AreAccepted t) (none : question ≡ 0) (rows : TableRows) (same : rows .shape ≡ t .shape)
+      (starts : rows .first ≡ firstRows (t .shape .counts)) (plan : Plan) (made : plan ≡ planOf (t .shape .n) (planned (viewOf t) purpose))
     where
       shape-is : (shape′ : Shape) → (shape′ .n ≡ rows .shape .n) × (shape′ .counts ≡ plan .kept)
-          → shape′ ≡ record { n = shape .n; counts = plan .kept }
+          → shape′ ≡ record { n = t .shape .n; counts = plan .kept }
       shape-is shape′ has =
-          let size : shape′ .n ≡ shape .n = has .0 ∙ ap (λ (s : Shape). s .n) same in
+          let size : shape′ .n ≡ t .shape .n = has .0 ∙ ap (λ (s : Shape). s .n) same in
           λ i. record { n = size i; counts = has .1 i }
 
       -- none fails: the plan's rows stand in both tables
       pub moved : (shape′ : Shape) → (shape′ .n ≡ rows .shape .n) × (shape′ .counts ≡ plan .kept) → (sent′ received′ : List ℕ)
-          → sent′ ≡ padded 4096 (rowsMoved rows sent (plan .line) (plan .kept) (plan .off .sent))
-          → received′ ≡ padded 4096 (rowsMoved rows received (plan .line) (plan .kept) (plan .off .received))
+          → sent′ ≡ padded 4096 (rowsMoved rows (t .sent) (plan .line) (plan .kept) (plan .off .sent))
+          → received′ ≡ padded 4096 (rowsMoved rows (t .received) (plan .line) (plan .kept) (plan .off .received))
           → Kept Accepted shape′ (plan .order) sent′ received′
       unfolding shapeMoved sentMoved receivedMoved planOf
       moved shape′ has sent′ received′ put put′ = (
         sym (answer-passed question none),
         (
-          shape-is shape′ has ∙ shape-moved shape sent received accepted purpose rows same starts plan made ∙ sym (kept-passed question shape (shapeOf book) none),
+          shape-is shape′ has ∙ shape-moved accepted purpose rows same starts plan made ∙ sym (kept-passed question (t .shape) (shapeOf book) none),
           (
-            ap (λ (q : Plan). q .order) made ∙ sym (order-given shape sent received purpose none),
+            ap (λ (q : Plan). q .order) made ∙ sym (order-given t purpose none),
             (
-              put ∙ sent-moved shape sent received accepted purpose rows same starts plan made
-                  ∙ sym (kept-passed question sent (sentTable book) none),
-              put′ ∙ received-moved shape sent received accepted purpose rows same starts plan made
-                  ∙ sym (kept-passed question received (receivedTable book) none),
+              put ∙ sent-moved accepted purpose rows same starts plan made
+                  ∙ sym (kept-passed question (t .sent) (sentTable book) none),
+              put′ ∙ received-moved accepted purpose rows same starts plan made
+                  ∙ sym (kept-passed question (t .received) (receivedTable book) none),
             ),
           ),
         ),

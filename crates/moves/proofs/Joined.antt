@@ -11,12 +11,15 @@ use Rattle.book.specs.declared.TableRows.{TableRows}
 use Rattle.book.specs.Tables.{shapeOf, sentTable, receivedTable, padded}
 use Rattle.book.specs.View.{count, counterAt, firstRows, S, R}
 use Rattle.line_theory.specs.Sets.{View}
+use Rattle.book.specs.Lent.{lent}
+use Rattle.book.specs.Accepted.{AreAccepted}
+use Rattle.book.proofs.Starts.{rows-accepted}
 use Rattle.line_theory.specs.OfTables.{viewOf}
-use Rattle.line_theory.proofs.Accepted.{accepted-is-book}
+use Rattle.line_theory.proofs.Accepted.{accepted-book, rows-placed}
 use Rattle.consistency.specs.Set.{chosen}
 use Rattle.matrix.specs.Matrix.{entry}
 use Rattle.shown.specs.Rows.{allRowsTo}
-use Rattle.shown.specs.Statements.{AreAccepted, ZeroElsewhere}
+use Rattle.shown.specs.Statements.{ZeroElsewhere}
 use Rattle.shown.proofs.Theorems.{sent-rows-shown, received-rows-shown, shape-shown, accepted-zero-elsewhere}
 use Rattle.restart.specs.declared.Plan.{Plan}
 use Rattle.restart.specs.Plan.{lineCheckpoint, goBefore, areKept, planned, applied, moved}
@@ -24,19 +27,19 @@ use Rattle.restart.specs.Values.{numbers, takenOff, planOf}
 use Rattle.restart.specs.Calls.{bookMoved}
 use Rattle.restart.proofs.Values.{number-at, checkpoint-at, off-at, numbers-padded}
 use Rattle.restart.proofs.Plans.{IsPlan, planned-is-plan}
-use Rattle.plans.proofs.Given.{given-of, lineOf, few-processes, rows-placed}
+use Rattle.plans.proofs.Given.{lineOf, few-processes}
 use Rattle.moves.specs.Parts.{Movable, rowsMoved}
 use Rattle.moves.proofs.Rows.{all-rows-same}
 
-module _ (shape : Shape) (sent received : List ℕ) (accepted : AreAccepted shape sent received) (purpose : ℕ) where
+module _ {shape : Shape} {sent received : List ℕ} (accepted : AreAccepted (lent shape sent received)) (purpose : ℕ) where
   abbrev v : View
-  v = viewOf shape sent received
+  v = viewOf (lent shape sent received)
 
   few : shape .n ≤ 16
   few = few-processes accepted
 
   zeros : ZeroElsewhere v (S shape sent) × ZeroElsewhere v (R shape received)
-  zeros = accepted-zero-elsewhere shape sent received accepted
+  zeros = accepted-zero-elsewhere (lent shape sent received) accepted
 
   -- the plan's lists
   abbrev lineList : List Checkpoint
@@ -48,7 +51,7 @@ module _ (shape : Shape) (sent received : List ℕ) (accepted : AreAccepted shap
   -- ---- the kept checkpoints are among those that there are
 
   is-plan : IsPlan v (planned v purpose)
-  is-plan = planned-is-plan v purpose (accepted-is-book shape sent received (accepted .sixteen) (accepted .passed))
+  is-plan = planned-is-plan v purpose (accepted-book accepted)
 
   module _ (j : ℕ) (h : j < shape .n) where
     line-there : 1 ≤ lineCheckpoint v purpose j
@@ -97,7 +100,7 @@ module _ (shape : Shape) (sent received : List ℕ) (accepted : AreAccepted shap
     movable-of : Movable rows lineList keptList
     movable-of =
         record {
-          placed = rows-placed (given-of same starts accepted);
+          placed = rows-placed (rows-accepted accepted (same, starts));
           most = rw same few;
           among = λ j h. among j (rw same at h);
         }
@@ -118,7 +121,7 @@ module _ (shape : Shape) (sent received : List ℕ) (accepted : AreAccepted shap
       unfolding planned planOf
       movable = subst (λ (q : Plan). Movable rows (q .line) (q .kept)) (sym made) movable-of
 
-      pub sent-moved : padded 4096 (rowsMoved rows sent (plan .line) (plan .kept) (plan .off .sent)) ≡ sentTable (bookMoved shape sent received purpose)
+      pub sent-moved : padded 4096 (rowsMoved rows sent (plan .line) (plan .kept) (plan .off .sent)) ≡ sentTable (bookMoved (lent shape sent received) purpose)
       unfolding planned applied planOf bookMoved
       sent-moved =
           ap (λ (q : Plan). padded 4096 (rowsMoved rows sent (q .line) (q .kept) (q .off .sent))) made
@@ -126,14 +129,14 @@ module _ (shape : Shape) (sent received : List ℕ) (accepted : AreAccepted shap
           ∙ sym (sent-rows-shown (moved v purpose) few (zero-elsewhere sent (zeros .0)))
 
       pub received-moved : padded 4096 (rowsMoved rows received (plan .line) (plan .kept) (plan .off .received))
-          ≡ receivedTable (bookMoved shape sent received purpose)
+          ≡ receivedTable (bookMoved (lent shape sent received) purpose)
       unfolding planned applied planOf bookMoved
       received-moved =
           ap (λ (q : Plan). padded 4096 (rowsMoved rows received (q .line) (q .kept) (q .off .received))) made
           ∙ ap (padded 4096) (rows-of received)
           ∙ sym (received-rows-shown (moved v purpose) few (zero-elsewhere received (zeros .1)))
 
-      pub shape-moved : record { n = shape .n; counts = plan .kept } ≡ shapeOf (bookMoved shape sent received purpose)
+      pub shape-moved : record { n = shape .n; counts = plan .kept } ≡ shapeOf (bookMoved (lent shape sent received) purpose)
       unfolding planned applied planOf bookMoved
       shape-moved =
           ap {B = Shape} (λ (q : Plan). record { n = shape .n; counts = q .kept }) made

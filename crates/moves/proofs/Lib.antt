@@ -1,6 +1,4 @@
 pub mod Rows
-pub mod Places
-pub mod RowTurns
 pub mod ProcessTurns
 pub mod AllTurns
 pub mod Joined

@@ -14,7 +14,7 @@ use Rattle.consistency.specs.Known.{counters}
 use Rattle.shown.specs.Rows.{rowsTo}
 use Rattle.moves.specs.Parts.{lowered}
 use Rattle.moves.proofs.Rows.{length-rows}
-use Rattle.moves.proofs.Places.{read-after}
+use Rattle.lists.proofs.Stores.{getD-past}
 
 -- the row of checkpoint r, of those from row `from` on
 abbrev pub rowOf : List ℕ → ℕ → List Count → ℕ → ℕ → ℕ
@@ -46,7 +46,7 @@ module _ (table₀ : List ℕ) (from to kept : ℕ) (off : List Count) (table : 
         let back : suc k - 1 ≡ k = omega arith in
         let at : ℕ = (from + k) * 16 + p in
         ap (λ (v : ℕ). v - counters off p)
-        (ap (λ (l : List ℕ). getD l at 0) (inv .present) ∙ read-after done table₀ (to * 16) at (omega (arith, long))
+        (ap (λ (l : List ℕ). getD l at 0) (inv .present) ∙ getD-past done table₀ (to * 16) at (omega (arith, long))
         ∙ ap (λ (i : ℕ). getD table₀ ((from + i) * 16 + p) 0) (sym back))
 
     pub process-more : (table′ : List ℕ) → k < kept → table′ ≡ sets table ((to + k) * 16) (tab 16 (lowered table (from + k) off))

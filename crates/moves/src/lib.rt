@@ -12,6 +12,7 @@ ghost use mathlib.Core.Path.{_≡_};
 ghost use Prim.Native.Nat.{_+_, _-_, _*_, _≤_};
 ghost use lib.ListN.{length};
 ghost use lib.Seq.{sets};
+ghost use Rattle.book.specs.Lent.{lent};
 ghost use Rattle.book.specs.Tables.{padded};
 ghost use Rattle.book.specs.InTurn.{answerTo};
 ghost use Rattle.lists.specs.Over.{tab};
@@ -131,11 +132,11 @@ pub fn move_line(
     received: &mut [Counter],
     purpose: u64,
 ) -> Moved
-    ensures { λ r. ⌜ r .answer ≡ answerTo (moveQuestion shape (now (sent .entry)) (now (received .entry)) purpose) ⌝ }
-    ensures { λ r. ⌜ r .shape ≡ shapeMoved shape (now (sent .entry)) (now (received .entry)) purpose ⌝ }
-    ensures { λ r. ⌜ r .order ≡ orderGiven shape (now (sent .entry)) (now (received .entry)) purpose ⌝ }
-    ensures { λ _. ⌜ now (sent .exit) ≡ sentMoved shape (now (sent .entry)) (now (received .entry)) purpose ⌝ }
-    ensures { λ _. ⌜ now (received .exit) ≡ receivedMoved shape (now (sent .entry)) (now (received .entry)) purpose ⌝ }
+    ensures { λ r. ⌜ r .answer ≡ answerTo (moveQuestion (lent shape (now (sent .entry)) (now (received .entry))) purpose) ⌝ }
+    ensures { λ r. ⌜ r .shape ≡ shapeMoved (lent shape (now (sent .entry)) (now (received .entry))) purpose ⌝ }
+    ensures { λ r. ⌜ r .order ≡ orderGiven (lent shape (now (sent .entry)) (now (received .entry))) purpose ⌝ }
+    ensures { λ _. ⌜ now (sent .exit) ≡ sentMoved (lent shape (now (sent .entry)) (now (received .entry))) purpose ⌝ }
+    ensures { λ _. ⌜ now (received .exit) ≡ receivedMoved (lent shape (now (sent .entry)) (now (received .entry))) purpose ⌝ }
 {
     let question = plans::question(shape, sent, received, purpose);
     if question != 0 {

@@ -4,12 +4,12 @@ use mathlib.Core.Bool.{Bool, true, false}
 use mathlib.Core.List.{List}
 use Prim.Native.Nat.{ℕ, _-_, _≤_}
 use native.Mathlib.Omega.{arith}
+use Rattle.book.specs.Lent.{Tables, lent}
 use Rattle.book.specs.declared.Answer.{Answer}
 use Rattle.book.specs.declared.Answer.the-variants.{Accepted, Refused}
 use Rattle.book.specs.declared.Checkpoint.{Checkpoint}
 use Rattle.book.specs.declared.Count.{Count}
 use Rattle.book.specs.declared.Process.{Process}
-use Rattle.book.specs.declared.Shape.{Shape}
 use Rattle.book.specs.declared.TableRows.{TableRows}
 use Rattle.book.specs.InTurn.{_then_, ask, answerTo}
 use Rattle.book.specs.Check.{tablesQuestion}
@@ -58,34 +58,34 @@ before-is n newest me initiator purpose row e =
       column = e i;
     }
 
-module _ (shape : Shape) (sent received : List ℕ) (me initiator : Process) (purpose : ℕ) where
-  abbrev tables : ℕ
-  tables = tablesQuestion shape sent received
+module _ (tables : Tables) (me initiator : Process) (purpose : ℕ) where
+  abbrev of-tables : ℕ
+  of-tables = tablesQuestion tables
 
   abbrev named : Bool
-  named = participantNamed (shape .n) (me .0) (initiator .0)
+  named = participantNamed (tables .shape .n) (me .0) (initiator .0)
 
   abbrev asked : ℕ
-  asked = firstQuestion shape sent received (me .0) (initiator .0) purpose
+  asked = firstQuestion tables (me .0) (initiator .0) purpose
 
   abbrev First : Answer → Participant → Type 0
-  First answer state = (answer ≡ answerTo asked) × (state ≡ firstState shape sent received me initiator purpose)
+  First answer state = (answer ≡ answerTo asked) × (state ≡ firstState tables me initiator purpose)
 
   -- a question that fails
   refusal : (found : ℕ) (state : Participant) → asked ≡ found → (found ≡ 0 → ⊥) → state ≡ noParticipant → First (Refused found) state
   unfolding firstState
   refusal found state e h s = (
     sym (answer-refused found h) ∙ ap (λ (q : ℕ). answerTo q) (sym e),
-    s ∙ sym (kept-refused asked noParticipant (first (ownOf shape sent received (me .0 - 1)) me initiator purpose) (λ z. h (sym e ∙ z))),
+    s ∙ sym (kept-refused asked noParticipant (first (ownOf tables (me .0 - 1)) me initiator purpose) (λ z. h (sym e ∙ z))),
   )
 
-  pub first-tables : (found : ℕ) (state : Participant) → found ≡ tables → (found ≡ 0 → ⊥) → state ≡ noParticipant → First (Refused found) state
+  pub first-tables : (found : ℕ) (state : Participant) → found ≡ of-tables → (found ≡ 0 → ⊥) → state ≡ noParticipant → First (Refused found) state
   first-tables found state e h s =
-      refusal found state (then-refused tables (λ _. ask 10 named then λ _. ask 11 (isPurpose purpose)) (λ z. h (e ∙ z)) ∙ sym e) h s
+      refusal found state (then-refused of-tables (λ _. ask 10 named then λ _. ask 11 (isPurpose purpose)) (λ z. h (e ∙ z)) ∙ sym e) h s
 
-  module _ (none : tables ≡ 0) where
+  module _ (none : of-tables ≡ 0) where
     past-tables : asked ≡ (ask 10 named then λ _. ask 11 (isPurpose purpose))
-    past-tables = then-passed tables (λ _. ask 10 named then λ _. ask 11 (isPurpose purpose)) none
+    past-tables = then-passed of-tables (λ _. ask 10 named then λ _. ask 11 (isPurpose purpose)) none
 
     pub first-unnamed : (state : Participant) → named ≡ false → state ≡ noParticipant → First (Refused 10) state
     first-unnamed state h s = refusal 10 state (past-tables ∙ fails named h) (λ z. absurd (omega arith)) s
@@ -100,12 +100,12 @@ module _ (shape : Shape) (sent received : List ℕ) (me initiator : Process) (pu
     first-no-purpose state h l s = refusal 11 state (past-names h ∙ ask-no 11 (isPurpose purpose) l) (λ z. absurd (omega arith)) s
 
     pub first-begun : (state : Participant) → named ≡ true → isPurpose purpose ≡ true
-        → state ≡ firstOf (shape .n) (count shape (me .0 - 1)) me initiator purpose → First Accepted state
+        → state ≡ firstOf (tables .shape .n) (count (tables .shape) (me .0 - 1)) me initiator purpose → First Accepted state
     unfolding firstState
     first-begun state h l e =
         let zero-now : asked ≡ 0 = past-names h ∙ ask-yes 11 (isPurpose purpose) l in (
           sym (answer-passed asked zero-now),
-          e ∙ sym (kept-passed asked noParticipant (first (ownOf shape sent received (me .0 - 1)) me initiator purpose) zero-now),
+          e ∙ sym (kept-passed asked noParticipant (first (ownOf tables (me .0 - 1)) me initiator purpose) zero-now),
         )
 
 -- ---- a participant receives a message
@@ -121,11 +121,11 @@ state-named n own state h =
     named-there n me initiator (asked-yes 9 (participantNamed n me initiator) (passes .0))
 
 -- the step, on the rows of the shape and the message that was read
-pub step-on : (shape : Shape) (sent received : List ℕ) (state : Participant) (s : List ℕ) (rows : TableRows) (m : Message) (next : ParticipantStep)
-    → rows .shape ≡ shape → m ≡ readBy (shape .n) state s → next ≡ step (ownOf (rows .shape) sent received (state .me .0 - 1)) state m
-    → next ≡ stepOn shape sent received state s
-step-on shape sent received state s rows m next e f g =
-    g ∙ (λ i. step (ownOf (e i) sent received (state .me .0 - 1)) state (f i))
+pub step-on : (tables : Tables) (state : Participant) (s : List ℕ) (rows : TableRows) (m : Message) (next : ParticipantStep)
+    → rows .shape ≡ tables .shape → m ≡ readBy (tables .shape .n) state s → next ≡ step (ownOf (lent (rows .shape) (tables .sent) (tables .received)) (state .me .0 - 1)) state m
+    → next ≡ stepOn tables state s
+step-on tables state s rows m next e f g =
+    g ∙ (λ i. step (ownOf (lent (e i) (tables .sent) (tables .received)) (state .me .0 - 1)) state (f i))
 
 -- the questions of the message as it was read
 pub message-asked : (n : ℕ) (state : Participant) (s : List ℕ) (read : ReadMessage)
@@ -135,10 +135,10 @@ pub message-asked : (n : ℕ) (state : Participant) (s : List ℕ) (read : ReadM
 message-asked n state s read p q =
     λ i. (ask 14 (p i) then λ _. ask 15 (awaits state (q i)) then λ _. ask 16 (allLower (q i .news) (state .column)))
 
-pub answer-received : (shape : Shape) (sent received : List ℕ) (state : Participant) (s out : List ℕ) (next : ParticipantStep) (a : ParticipantAnswer)
-    (bytes : List ℕ) → next ≡ stepOn shape sent received state s
-    → Answered (tablesQuestion shape sent received) (stateQuestion (shape .n) (ownOfState shape sent received state) state)
-    (messageQuestion (shape .n) state s)
+pub answer-received : (tables : Tables) (state : Participant) (s out : List ℕ) (next : ParticipantStep) (a : ParticipantAnswer)
+    (bytes : List ℕ) → next ≡ stepOn tables state s
+    → Answered (tablesQuestion tables) (stateQuestion (tables .shape .n) (ownOfState tables state) state)
+    (messageQuestion (tables .shape .n) state s)
     state
     (next .state)
     (next .outgoing)
@@ -146,16 +146,15 @@ pub answer-received : (shape : Shape) (sent received : List ℕ) (state : Partic
     (a .answer)
     (a .state)
     (a .lengths)
-    bytes
-    → (a .answer ≡ answerTo (receiveQuestion shape sent received state s out))
-    × ((a .state ≡ stateAfter shape sent received state s out)
-    × ((a .lengths ≡ lengthsAfter shape sent received state s out) × (bytes ≡ bytesAfter shape sent received state s out)))
+    bytes → (a .answer ≡ answerTo (receiveQuestion tables state s out))
+    × ((a .state ≡ stateAfter tables state s out)
+    × ((a .lengths ≡ lengthsAfter tables state s out) × (bytes ≡ bytesAfter tables state s out)))
 unfolding receiveQuestion stateAfter lengthsAfter bytesAfter
-answer-received shape sent received state s out next a bytes e answered =
+answer-received tables state s out next a bytes e answered =
     subst
     (λ (t : ParticipantStep).
-    Answered (tablesQuestion shape sent received) (stateQuestion (shape .n) (ownOfState shape sent received state) state)
-    (messageQuestion (shape .n) state s)
+    Answered (tablesQuestion tables) (stateQuestion (tables .shape .n) (ownOfState tables state) state)
+    (messageQuestion (tables .shape .n) state s)
     state
     (t .state)
     (t .outgoing)

@@ -1,8 +1,10 @@
 -- Document 01, "A search", and K 5.3: a participant's step, on its state and a message as data.
 use mathlib.Core.Bool.{Bool, false, _&&_}
+use mathlib.Core.List.{List}
 use Prim.Native.Nat.{ℕ, _-_}
 use lib.Dec.{eqb}
 use Rattle.book.specs.declared.Process.{Process}
+use Rattle.book.specs.declared.Count.{Count}
 use Rattle.lists.specs.Pick.{pick}
 use Rattle.matrix.specs.Matrix.{notKnownRow}
 use Rattle.matrix.specs.Entries.{diff, patch}
@@ -44,33 +46,27 @@ awaits state m =
     eqb (m .head .sender .0) (state .initiator .0)
     && (eqb (m .head .purpose) (state .purpose) && kindAwaited (state .stage) (m .head .kind))
 
--- "with 2 the invitation itself ends each participant on checkpoint 1" (K 5.3, step 2)
-unfoldable pub endOnOldest : Participant → Participant
-endOnOldest state =
+-- further on in the same search: n, the names and the purpose stay
+abbrev pub onward : Participant → (stage : Stage) (candidate : ℕ) (row column : List Count) → Participant
+onward state stage candidate row column =
     record {
       n = state .n;
       me = state .me;
       initiator = state .initiator;
       purpose = state .purpose;
-      stage = Ended;
-      candidate = record { 0 = 1 };
-      row = state .row;
-      column = state .column;
+      stage = stage;
+      candidate = record { 0 = candidate };
+      row = row;
+      column = column;
     }
+
+-- "with 2 the invitation itself ends each participant on checkpoint 1" (K 5.3, step 2)
+unfoldable pub endOnOldest : Participant → Participant
+endOnOldest state = onward state Ended 1 (state .row) (state .column)
 
 -- "A participant has ended once a termination was delivered to it": it stays on its candidate (K 5.3, step 6).
 unfoldable pub end : Participant → Participant
-end state =
-    record {
-      n = state .n;
-      me = state .me;
-      initiator = state .initiator;
-      purpose = state .purpose;
-      stage = Ended;
-      candidate = state .candidate;
-      row = state .row;
-      column = state .column;
-    }
+end state = onward state Ended (state .candidate .0) (state .row) (state .column)
 
 -- "A participant takes its newest checkpoint whose received counters are at most the known sent counters": the message's
 -- counters are known from now on (K 5.3, steps 1 and 6), then the candidate follows, and its row is what is reported (step 5).
@@ -78,16 +74,7 @@ unfoldable pub stepBack : Own → Participant → Message → Participant
 stepBack own state m =
     let known = patch (state .column) (m .news) in
     let r : ℕ = newestPermitted own known in
-    record {
-      n = state .n;
-      me = state .me;
-      initiator = state .initiator;
-      purpose = state .purpose;
-      stage = Searching;
-      candidate = record { 0 = r };
-      row = sentRow own r;
-      column = known;
-    }
+    onward state Searching r (sentRow own r) known
 
 -- "It reports each sent counter that differs from what it last reported", to the initiator.
 unfoldable pub reportOf : Participant → Participant → ParticipantStep

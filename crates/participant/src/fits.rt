@@ -6,18 +6,19 @@ use book::Counter;
 use book::TableRows;
 ghost use mathlib.Core.Path.{_≡_};
 ghost use Prim.Native.Nat.{_-_, _≤_};
+ghost use Rattle.book.specs.Lent.{lent};
 ghost use Rattle.book.specs.View.{count};
 ghost use Rattle.machine.specs.Own.{ownOf};
-ghost use Rattle.machine.specs.Given.{Given};
+ghost use Rattle.book.specs.Accepted.{AcceptedRows, IsProcess};
 ghost use Rattle.participant.specs.declared.Stage.the-variants.{Ended};
 ghost use Rattle.participant.specs.Fits.{searchFits, unknownOn, stageFits, fits};
 
 impl Participant {
     // Is the kept row the candidate's, and the candidate the newest that the kept column permits?
     fn search_fits(self, rows: TableRows, sent: &[Counter], received: &[Counter]) -> bool
-        requires { ⌜ Given rows (now sent) (now received) (self .me .0) ⌝ }
+        requires { ⌜ AcceptedRows rows (now sent) (now received) × IsProcess rows (self .me .0) ⌝ }
         requires { ⌜ (1 ≤ self .candidate .0) × (self .candidate .0 ≤ count (rows .shape) (self .me .0 - 1)) ⌝ }
-        ensures { λ r. ⌜ r ≡ searchFits (ownOf (rows .shape) (now (sent .entry)) (now (received .entry)) (self .me .0 - 1)) self ⌝ }
+        ensures { λ r. ⌜ r ≡ searchFits (ownOf (lent (rows .shape) (now (sent .entry)) (now (received .entry))) (self .me .0 - 1)) self ⌝ }
     {
         let me = self.me;
         let candidate = self.candidate;
@@ -52,9 +53,9 @@ impl Participant {
 
     // Once it has ended: by purpose 2 on the oldest checkpoint, nothing known.
     fn end_fits(self, rows: TableRows, sent: &[Counter], received: &[Counter]) -> bool
-        requires { ⌜ Given rows (now sent) (now received) (self .me .0) ⌝ }
+        requires { ⌜ AcceptedRows rows (now sent) (now received) × IsProcess rows (self .me .0) ⌝ }
         requires { ⌜ (1 ≤ self .candidate .0) × (self .candidate .0 ≤ count (rows .shape) (self .me .0 - 1)) ⌝ }
-        ensures { λ r. ⌜ r ≡ stageFits (ownOf (rows .shape) (now (sent .entry)) (now (received .entry)) (self .me .0 - 1)) self Ended ⌝ }
+        ensures { λ r. ⌜ r ≡ stageFits (ownOf (lent (rows .shape) (now (sent .entry)) (now (received .entry))) (self .me .0 - 1)) self Ended ⌝ }
     {
         if self.purpose == 2 {
             return self.unknown_on(Checkpoint(1));
@@ -64,9 +65,9 @@ impl Participant {
 
     // The conditions that depend on how far it has come.
     fn stage_fits(self, rows: TableRows, sent: &[Counter], received: &[Counter]) -> bool
-        requires { ⌜ Given rows (now sent) (now received) (self .me .0) ⌝ }
+        requires { ⌜ AcceptedRows rows (now sent) (now received) × IsProcess rows (self .me .0) ⌝ }
         requires { ⌜ (1 ≤ self .candidate .0) × (self .candidate .0 ≤ count (rows .shape) (self .me .0 - 1)) ⌝ }
-        ensures { λ r. ⌜ r ≡ stageFits (ownOf (rows .shape) (now (sent .entry)) (now (received .entry)) (self .me .0 - 1)) self (self .stage) ⌝ }
+        ensures { λ r. ⌜ r ≡ stageFits (ownOf (lent (rows .shape) (now (sent .entry)) (now (received .entry))) (self .me .0 - 1)) self (self .stage) ⌝ }
     {
         let shape = rows.shape;
         let counts = shape.counts;
@@ -82,8 +83,8 @@ impl Participant {
 
     // Does the state fit the tables (question 13)?
     pub fn fits(self, rows: TableRows, sent: &[Counter], received: &[Counter]) -> bool
-        requires { ⌜ Given rows (now sent) (now received) (self .me .0) ⌝ }
-        ensures { λ r. ⌜ r ≡ fits (ownOf (rows .shape) (now (sent .entry)) (now (received .entry)) (self .me .0 - 1)) self ⌝ }
+        requires { ⌜ AcceptedRows rows (now sent) (now received) × IsProcess rows (self .me .0) ⌝ }
+        ensures { λ r. ⌜ r ≡ fits (ownOf (lent (rows .shape) (now (sent .entry)) (now (received .entry))) (self .me .0 - 1)) self ⌝ }
     {
         let shape = rows.shape;
         let counts = shape.counts;

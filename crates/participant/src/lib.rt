@@ -12,7 +12,8 @@ use mail::Outgoing;
 use message::ReadMessage;
 ghost use mathlib.Core.Path.{_≡_};
 ghost use Prim.Native.Nat.{_-_, _≤_};
-ghost use Rattle.book.specs.Check.{tablesQuestion};
+ghost use Rattle.book.specs.Lent.{lent};
+ghost use Rattle.book.specs.Accepted.{AreAccepted};
 ghost use Rattle.book.specs.InTurn.{_then_, ask, answerTo};
 ghost use Rattle.matrix.specs.Entries.{allLower};
 ghost use Rattle.mail.specs.Outgoing.{noLengths};
@@ -88,8 +89,8 @@ impl Participant {
         initiator: Process,
         purpose: u64,
     ) -> ParticipantFirst
-        ensures { λ r. ⌜ r .answer ≡ answerTo (firstQuestion shape (now (sent .entry)) (now (received .entry)) (me .0) (initiator .0) purpose) ⌝ }
-        ensures { λ r. ⌜ r .state ≡ firstState shape (now (sent .entry)) (now (received .entry)) me initiator purpose ⌝ }
+        ensures { λ r. ⌜ r .answer ≡ answerTo (firstQuestion (lent shape (now (sent .entry)) (now (received .entry))) (me .0) (initiator .0) purpose) ⌝ }
+        ensures { λ r. ⌜ r .state ≡ firstState (lent shape (now (sent .entry)) (now (received .entry))) me initiator purpose ⌝ }
     {
         let question = tables::question(shape, sent, received);
         if question != 0 {
@@ -146,8 +147,8 @@ impl Participant {
 
     // Questions 10, 11 and 13 of a state, on accepted tables.
     fn state_question(self, shape: Shape, sent: &[Counter], received: &[Counter]) -> u32
-        requires { ⌜ tablesQuestion shape (now sent) (now received) ≡ 0 ⌝ }
-        ensures { λ r. ⌜ r ≡ stateQuestion (shape .n) (ownOf shape (now (sent .entry)) (now (received .entry)) (self .me .0 - 1)) self ⌝ }
+        requires { ⌜ AreAccepted (lent shape (now sent) (now received)) ⌝ }
+        ensures { λ r. ⌜ r ≡ stateQuestion (shape .n) (ownOf (lent shape (now (sent .entry)) (now (received .entry))) (self .me .0 - 1)) self ⌝ }
     {
         let me = self.me;
         let initiator = self.initiator;
@@ -206,10 +207,10 @@ impl Participant {
         s: &[u8],
         out: &mut [u8],
     ) -> ParticipantAnswer
-        ensures { λ r. ⌜ r .answer ≡ answerTo (receiveQuestion shape (now (sent .entry)) (now (received .entry)) self (now (s .entry)) (now (out .entry))) ⌝ }
-        ensures { λ r. ⌜ r .state ≡ stateAfter shape (now (sent .entry)) (now (received .entry)) self (now (s .entry)) (now (out .entry)) ⌝ }
-        ensures { λ r. ⌜ r .lengths ≡ lengthsAfter shape (now (sent .entry)) (now (received .entry)) self (now (s .entry)) (now (out .entry)) ⌝ }
-        ensures { λ _. ⌜ now (out .exit) ≡ bytesAfter shape (now (sent .entry)) (now (received .entry)) self (now (s .entry)) (now (out .entry)) ⌝ }
+        ensures { λ r. ⌜ r .answer ≡ answerTo (receiveQuestion (lent shape (now (sent .entry)) (now (received .entry))) self (now (s .entry)) (now (out .entry))) ⌝ }
+        ensures { λ r. ⌜ r .state ≡ stateAfter (lent shape (now (sent .entry)) (now (received .entry))) self (now (s .entry)) (now (out .entry)) ⌝ }
+        ensures { λ r. ⌜ r .lengths ≡ lengthsAfter (lent shape (now (sent .entry)) (now (received .entry))) self (now (s .entry)) (now (out .entry)) ⌝ }
+        ensures { λ _. ⌜ now (out .exit) ≡ bytesAfter (lent shape (now (sent .entry)) (now (received .entry))) self (now (s .entry)) (now (out .entry)) ⌝ }
     {
         let question = tables::question(shape, sent, received);
         if question != 0 {

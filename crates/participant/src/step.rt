@@ -9,8 +9,9 @@ use message::Head;
 use message::Message;
 ghost use mathlib.Core.Path.{_≡_};
 ghost use Prim.Native.Nat.{_-_, _≤_};
+ghost use Rattle.book.specs.Lent.{lent};
 ghost use Rattle.machine.specs.Own.{ownOf};
-ghost use Rattle.machine.specs.Given.{Given};
+ghost use Rattle.book.specs.Accepted.{AcceptedRows, IsProcess};
 ghost use Rattle.participant.specs.Step.{kindAwaited, awaits, endOnOldest, end, stepBack, reportOf, silent, step};
 
 // What kind of message is awaited?
@@ -91,8 +92,8 @@ impl Participant {
         received: &[Counter],
         message: Message,
     ) -> Participant
-        requires { ⌜ Given rows (now sent) (now received) (self .me .0) ⌝ }
-        ensures { λ r. ⌜ r ≡ stepBack (ownOf (rows .shape) (now (sent .entry)) (now (received .entry)) (self .me .0 - 1)) self message ⌝ }
+        requires { ⌜ AcceptedRows rows (now sent) (now received) × IsProcess rows (self .me .0) ⌝ }
+        ensures { λ r. ⌜ r ≡ stepBack (ownOf (lent (rows .shape) (now (sent .entry)) (now (received .entry))) (self .me .0 - 1)) self message ⌝ }
     {
         let me = self.me;
         let initiator = self.initiator;
@@ -160,9 +161,9 @@ impl Participant {
         received: &[Counter],
         message: Message,
     ) -> ParticipantStep
-        requires { ⌜ Given rows (now sent) (now received) (self .me .0) ⌝ }
+        requires { ⌜ AcceptedRows rows (now sent) (now received) × IsProcess rows (self .me .0) ⌝ }
         requires { ⌜ (1 ≤ self .initiator .0) × (self .initiator .0 ≤ 16) ⌝ }
-        ensures { λ r. ⌜ r ≡ step (ownOf (rows .shape) (now (sent .entry)) (now (received .entry)) (self .me .0 - 1)) self message ⌝ }
+        ensures { λ r. ⌜ r ≡ step (ownOf (lent (rows .shape) (now (sent .entry)) (now (received .entry))) (self .me .0 - 1)) self message ⌝ }
     {
         let head = message.head;
         if head.purpose == 2 {

@@ -7,7 +7,7 @@ use native.Mathlib.Omega.{arith}
 use Rattle.book.specs.InTurn.{_then_}
 use Rattle.book.specs.Check.{tablesQuestion}
 use Rattle.book.proofs.Questions.{then-none}
-use Rattle.line_theory.proofs.Accepted.{accepted-size}
+use Rattle.line_theory.proofs.Accepted.{passed-size}
 use Rattle.matrix.specs.Entries.{allLower}
 use Rattle.message.specs.declared.Message.{Message}
 use Rattle.book.specs.Names.{isPurpose}
@@ -19,7 +19,7 @@ use Rattle.machine.specs.Own.{Own}
 use Rattle.machine.specs.Named.{participantNamed}
 use Rattle.machine_laws.proofs.Messages.{end-of-reader}
 use Rattle.machine_laws.proofs.Calls.{three-yes}
-use Rattle.machine_laws.proofs.Theorems.{accepted-is-own}
+use Rattle.machine_laws.proofs.Theorems.{is-own}
 use Rattle.participant.specs.declared.Participant.{Participant}
 use Rattle.participant.specs.Fits.{fits}
 use Rattle.participant.specs.Step.{awaits}
@@ -44,28 +44,28 @@ module _ (n : ℕ) (own : Own) (state : Participant) where
 
 pub accepted-call : AcceptedCall
 unfolding receiveQuestion
-accepted-call shape sent received state s out sixteen none =
-    let n : ℕ = shape .n in
+accepted-call t state s out sixteen none =
+    let n : ℕ = t .shape .n in
     let me : ℕ = state .me .0 in
     let initiator : ℕ = state .initiator .0 in
-    let own : Own = ownOfState shape sent received state in
+    let own : Own = ownOfState t state in
     let m : Message = readBy n state s in
     let a =
-    then-none (tablesQuestion shape sent received)
+    then-none (tablesQuestion t)
     (λ _. stateQuestion n own state
     then λ _. messageQuestion n state s
-    then λ _. roomQuestion (stepOn shape sent received state s .outgoing) out) none in
+    then λ _. roomQuestion (stepOn t state s .outgoing) out) none in
     let b =
     then-none (stateQuestion n own state)
     (λ _. messageQuestion n state s
-    then λ _. roomQuestion (stepOn shape sent received state s .outgoing) out) (a .1) in
-    let c = then-none (messageQuestion n state s) (λ _. roomQuestion (stepOn shape sent received state s .outgoing) out) (b .1) in
+    then λ _. roomQuestion (stepOn t state s .outgoing) out) (a .1) in
+    let c = then-none (messageQuestion n state s) (λ _. roomQuestion (stepOn t state s .outgoing) out) (b .1) in
     let of-state = state-asked n own state (b .0) in
     let of-message = message-asked n own state s (c .0) in
     let named = both-named n me initiator (of-state .0) in
-    let formed = read-is-formed n me initiator s (accepted-size shape sent received (a .0) .1) (of-message .0) in
+    let formed = read-is-formed n me initiator s (passed-size t (a .0) .1) (of-message .0) in
     record {
-      own-is = accepted-is-own shape sent received (me - 1) sixteen (a .0) (omega arith);
+      own-is = is-own {t = t} (record { sixteen = sixteen; passed = a .0 }) (me - 1) (omega arith);
       named = of-state .0;
       purpose = of-state .1;
       fitting = of-state .2;

@@ -41,10 +41,10 @@ never-raised own state m accepts =
 
 pub stays-above : StaysAbove
 unfolding end stepBack reportOf
-stays-above shape sent received state m sixteen none accepts searches above enough =
+stays-above t state m accepted accepts searches above enough =
     let me : ℕ = state .me .0 - 1 in
-    let least : ℕ = line (viewOf shape sent received) me in
+    let least : ℕ = line (viewOf t) me in
     by-step _ state m (λ (s : ParticipantStep). least ≤ s .state .candidate .0)
     (λ e. absurd (searches e))
     (λ other ending. above)
-    (λ other going. stays-above-line shape sent received me (known state m) sixteen none (accepts .own-is .present) enough)
+    (λ other going. stays-above-line t me (known state m) accepted (accepts .own-is .present) enough)

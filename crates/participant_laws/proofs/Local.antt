@@ -74,33 +74,33 @@ module _ (a b : Own) (j : ℕ) (is-a : IsOwn a j) (is-b : IsOwn b j) (agree : Ag
 
 pub receive-is-local : ReceiveIsLocal
 unfolding receiveQuestion stateAfter lengthsAfter bytesAfter
-receive-is-local shape shape′ sent received sent′ received′ state s out same-to =
+receive-is-local tables tables′ state s out same-to =
     let j : ℕ = state .me .0 - 1 in
-    let own : Own = ownOf shape sent received j in
-    let own′ : Own = ownOf shape′ sent′ received′ j in
+    let own : Own = ownOf tables j in
+    let own′ : Own = ownOf tables′ j in
     let outgoing : ParticipantStep → Outgoing = λ x. x .outgoing in
     same-received (λ n. participantNamed n (state .me .0) (state .initiator .0)) (isPurpose (state .purpose)) (λ n. messageQuestion n state s) outgoing out
-    state (λ x. x .state) (tablesQuestion shape sent received) (tablesQuestion shape′ sent′ received′) (shape .n) (shape′ .n)
-    (fits own state) (fits own′ state) (stepOn shape sent received state s) (stepOn shape′ sent′ received′ state s)
-    (same-to .accepted) (same-to .accepted′) (same-to .agree .processes)
+    state (λ x. x .state) (tablesQuestion tables) (tablesQuestion tables′) (tables .shape .n) (tables′ .shape .n)
+    (fits own state) (fits own′ state) (stepOn tables state s) (stepOn tables′ state s)
+    (same-to .accepted .passed) (same-to .accepted′ .passed) (same-to .agree .processes)
     (λ h.
-    let names = both-named (shape .n) (state .me .0) (state .initiator .0) h in
-    let is = both-own j shape shape′ sent received sent′ received′ same-to (omega (arith, names .me-some, names .me-most)) in (
+    let names = both-named (tables .shape .n) (state .me .0) (state .initiator .0) h in
+    let is = both-own same-to (omega (arith, names .me-some, names .me-most)) in (
       fits-same own own′ j (is .0) (is .1) (same-to .agree) state,
-      step-same own own′ j (is .0) (is .1) (same-to .agree) state (readBy (shape .n) state s)
+      step-same own own′ j (is .0) (is .1) (same-to .agree) state (readBy (tables .shape .n) state s)
           ∙ ap (λ (n : ℕ). step own′ state (readBy n state s)) (same-to .agree .processes),
     ))
 
 pub first-is-local : FirstIsLocal
 unfolding firstState
-first-is-local shape shape′ sent received sent′ received′ me initiator purpose same-to =
+first-is-local tables tables′ me initiator purpose same-to =
     let named : ℕ → Bool = λ n. participantNamed n (me .0) (initiator .0) in
     let later : ℕ → Participant → ℕ = λ n y. ask 11 (isPurpose purpose) in
-    let x : Participant = first (ownOf shape sent received (me .0 - 1)) me initiator purpose in
-    let x′ : Participant = first (ownOf shape′ sent′ received′ (me .0 - 1)) me initiator purpose in
+    let x : Participant = first (ownOf tables (me .0 - 1)) me initiator purpose in
+    let x′ : Participant = first (ownOf tables′ (me .0 - 1)) me initiator purpose in
     let begun : x ≡ x′ = rw (same-to .agree .processes, same-to .agree .checkpoints) in (
-      same-asked named later (tablesQuestion shape sent received) (tablesQuestion shape′ sent′ received′) (shape .n) (shape′ .n) x x′
-          (same-to .accepted) (same-to .accepted′) (same-to .agree .processes) (λ _. begun),
-      same-put named later (tablesQuestion shape sent received) (tablesQuestion shape′ sent′ received′) (shape .n) (shape′ .n) x x′
-          (same-to .accepted) (same-to .accepted′) (same-to .agree .processes) (λ _. begun) noParticipant (λ y. y),
+      same-asked named later (tablesQuestion tables) (tablesQuestion tables′) (tables .shape .n) (tables′ .shape .n) x x′
+          (same-to .accepted .passed) (same-to .accepted′ .passed) (same-to .agree .processes) (λ _. begun),
+      same-put named later (tablesQuestion tables) (tablesQuestion tables′) (tables .shape .n) (tables′ .shape .n) x x′
+          (same-to .accepted .passed) (same-to .accepted′ .passed) (same-to .agree .processes) (λ _. begun) noParticipant (λ y. y),
     )

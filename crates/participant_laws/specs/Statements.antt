@@ -5,11 +5,11 @@ use mathlib.Core.List.{List}
 use Prim.Native.Nat.{ℕ, _-_, _≤_, _<_}
 use lib.ListN.{length}
 use lib.Dec.{eqb}
-use Rattle.book.specs.declared.Shape.{Shape}
 use Rattle.book.specs.declared.Count.{Count}
 use Rattle.book.specs.declared.Process.{Process}
 use Rattle.book.specs.Bounds.{mostProcesses}
-use Rattle.book.specs.Check.{tablesQuestion}
+use Rattle.book.specs.Lent.{Tables}
+use Rattle.book.specs.Accepted.{AreAccepted}
 use Rattle.line_theory.specs.Sets.{View}
 use Rattle.line_theory.specs.Search.{sentTo, line}
 use Rattle.line_theory.specs.OfTables.{viewOf}
@@ -38,9 +38,8 @@ use Rattle.participant_laws.specs.Accepts.{Accepts, endsIt}
 -- A call that no question refuses takes a step on an accepted message.
 abbrev pub AcceptedCall : Type 0
 AcceptedCall =
-    (shape : Shape) (sent received : List ℕ) (state : Participant) (s out : List ℕ) → length (shape .counts) ≡ mostProcesses
-    → receiveQuestion shape sent received state s out ≡ 0
-    → Accepts (ownOfState shape sent received state) state (readBy (shape .n) state s)
+    (t : Tables) (state : Participant) (s out : List ℕ) → length (t .shape .counts) ≡ mostProcesses
+    → receiveQuestion t state s out ≡ 0 → Accepts (ownOfState t state) state (readBy (t .shape .n) state s)
 
 -- ---- question 13 is kept
 
@@ -70,13 +69,11 @@ NeverRaised =
 -- participant stays at or above the line.
 abbrev pub StaysAbove : Type 0
 StaysAbove =
-    (shape : Shape) (sent received : List ℕ) (state : Participant) (m : Message) → length (shape .counts) ≡ mostProcesses
-    → tablesQuestion shape sent received ≡ 0
-    → let own : Own = ownOfState shape sent received state in
+    (t : Tables) (state : Participant) (m : Message) → AreAccepted t → let own : Own = ownOfState t state in
     let me : ℕ = state .me .0 - 1 in
-    let v : View = viewOf shape sent received in
+    let v : View = viewOf t in
     Accepts own state m → (m .head .purpose ≡ 2 → ⊥) → line v me ≤ state .candidate .0
-    → ((p : ℕ) → p < shape .n → sentTo v (line v) me p ≤ counters (patch (state .column) (m .news)) p)
+    → ((p : ℕ) → p < t .shape .n → sentTo v (line v) me p ≤ counters (patch (state .column) (m .news)) p)
     → line v me ≤ step own state m .state .candidate .0
 
 -- ---- what is sent
@@ -109,18 +106,17 @@ EndIsSilent =
 -- Locality: what a participant answers, writes and becomes depends on the tables by its own checkpoints alone.
 abbrev pub ReceiveIsLocal : Type 0
 ReceiveIsLocal =
-    (shape shape′ : Shape) (sent received sent′ received′ : List ℕ) (state : Participant) (s out : List ℕ)
-    → SameTo (state .me .0 - 1) shape shape′ sent received sent′ received′
-    → (receiveQuestion shape sent received state s out ≡ receiveQuestion shape′ sent′ received′ state s out)
-    × (stateAfter shape sent received state s out ≡ stateAfter shape′ sent′ received′ state s out)
-    × (lengthsAfter shape sent received state s out ≡ lengthsAfter shape′ sent′ received′ state s out)
-    × (bytesAfter shape sent received state s out ≡ bytesAfter shape′ sent′ received′ state s out)
+    (tables tables′ : Tables) (state : Participant) (s out : List ℕ)
+    → SameTo (state .me .0 - 1) tables tables′ → (receiveQuestion tables state s out ≡ receiveQuestion tables′ state s out)
+    × (stateAfter tables state s out ≡ stateAfter tables′ state s out)
+    × (lengthsAfter tables state s out ≡ lengthsAfter tables′ state s out)
+    × (bytesAfter tables state s out ≡ bytesAfter tables′ state s out)
 
 -- The same of its first state.
 abbrev pub FirstIsLocal : Type 0
 FirstIsLocal =
-    (shape shape′ : Shape) (sent received sent′ received′ : List ℕ) (me initiator : Process) (purpose : ℕ)
-    → SameTo (me .0 - 1) shape shape′ sent received sent′ received′
-    → (firstQuestion shape sent received (me .0) (initiator .0) purpose
-    ≡ firstQuestion shape′ sent′ received′ (me .0) (initiator .0) purpose)
-    × (firstState shape sent received me initiator purpose ≡ firstState shape′ sent′ received′ me initiator purpose)
+    (tables tables′ : Tables) (me initiator : Process) (purpose : ℕ)
+    → SameTo (me .0 - 1) tables tables′
+    → (firstQuestion tables (me .0) (initiator .0) purpose
+    ≡ firstQuestion tables′ (me .0) (initiator .0) purpose)
+    × (firstState tables me initiator purpose ≡ firstState tables′ me initiator purpose)

@@ -11,19 +11,18 @@ use restart::Plan;
 use restart::TakenOff;
 ghost use mathlib.Core.Path.{_≡_};
 ghost use Prim.Native.Nat.{_-_, _≤_};
-ghost use lib.ListN.{length};
+ghost use Rattle.book.specs.Lent.{lent};
+ghost use Rattle.book.specs.Accepted.{AcceptedRows};
 ghost use Rattle.book.specs.View.{count, counterAt};
 ghost use Rattle.book.specs.InTurn.{answerTo};
-ghost use Rattle.book.specs.Fits.{Placed};
 ghost use Rattle.line_theory.specs.OfTables.{viewOf};
 ghost use Rattle.lists.specs.Pick.{pick};
 ghost use Rattle.consistency.specs.Set.{chosen};
-ghost use Rattle.consistency.specs.Given.{AllNamed};
+ghost use Rattle.consistency.specs.Given.{Whole, AllNamed};
 ghost use Rattle.finder.specs.Line.{checkpoints};
 ghost use Rattle.restart.specs.Plan.{advances, restarts, lineCheckpoint, planned};
 ghost use Rattle.restart.specs.Values.{present, numbers, takenOff, planOf};
 ghost use Rattle.restart.specs.Calls.{noOrder, moveQuestion, orderGiven};
-ghost use Rattle.plans.specs.Parts.{AcceptedRows};
 
 // The answer of `restart_order`; beside a refusal all numbers are zero.
 pub struct OrderAnswer {
@@ -78,7 +77,7 @@ fn line_checkpoints(
     purpose: u64,
 ) -> [Checkpoint; 16]
     requires { ⌜ AcceptedRows rows (now sent) (now received) ⌝ }
-    ensures { λ set. ⌜ set ≡ checkpoints (present (rows .shape .n) (lineCheckpoint (viewOf (rows .shape) (now (sent .entry)) (now (received .entry))) purpose)) ⌝ }
+    ensures { λ set. ⌜ set ≡ checkpoints (present (rows .shape .n) (lineCheckpoint (viewOf (lent (rows .shape) (now (sent .entry)) (now (received .entry)))) purpose)) ⌝ }
 {
     let shape = rows.shape;
     if !advances(purpose) {
@@ -152,8 +151,7 @@ fn kept_from(shape: Shape, line: [Checkpoint; 16], purpose: u64) -> [usize; 16]
 
 // What the line checkpoints hold in a table, one row for each process.
 fn held_by(rows: TableRows, table: &[Counter], line: [Checkpoint; 16]) -> [Count; 256]
-    requires { ⌜ Placed rows × (length (now table) ≡ 4096) ⌝ }
-    requires { ⌜ (rows .shape .n ≤ 16) × AllNamed (rows .shape) line ⌝ }
+    requires { ⌜ Whole rows (now table) × AllNamed (rows .shape) line ⌝ }
     ensures { λ r. ⌜ r ≡ takenOff (rows .shape .n) (λ j p. counterAt (rows .shape .counts) (now (table .entry)) j (chosen line j) p) ⌝ }
 {
     let shape = rows.shape;
@@ -172,7 +170,7 @@ fn held_by(rows: TableRows, table: &[Counter], line: [Checkpoint; 16]) -> [Count
 
 // The first question of a move that fails: of the tables, then 11; 0 for none.
 pub fn question(shape: Shape, sent: &[Counter], received: &[Counter], purpose: u64) -> u32
-    ensures { λ r. ⌜ r ≡ moveQuestion shape (now (sent .entry)) (now (received .entry)) purpose ⌝ }
+    ensures { λ r. ⌜ r ≡ moveQuestion (lent shape (now (sent .entry)) (now (received .entry))) purpose ⌝ }
 {
     let question = tables::question(shape, sent, received);
     if question != 0 {
@@ -187,7 +185,7 @@ pub fn question(shape: Shape, sent: &[Counter], received: &[Counter], purpose: u
 // The plan of a move. Inner: asks for the rows of accepted tables.
 pub fn plan_move(rows: TableRows, sent: &[Counter], received: &[Counter], purpose: u64) -> Plan
     requires { ⌜ AcceptedRows rows (now sent) (now received) ⌝ }
-    ensures { λ r. ⌜ r ≡ planOf (rows .shape .n) (planned (viewOf (rows .shape) (now (sent .entry)) (now (received .entry))) purpose) ⌝ }
+    ensures { λ r. ⌜ r ≡ planOf (rows .shape .n) (planned (viewOf (lent (rows .shape) (now (sent .entry)) (now (received .entry)))) purpose) ⌝ }
 {
     let shape = rows.shape;
     let line = line_checkpoints(rows, sent, received, purpose);
@@ -212,8 +210,8 @@ pub fn restart_order(
     received: &[Counter],
     purpose: u64,
 ) -> OrderAnswer
-    ensures { λ r. ⌜ r .answer ≡ answerTo (moveQuestion shape (now (sent .entry)) (now (received .entry)) purpose) ⌝ }
-    ensures { λ r. ⌜ r .order ≡ orderGiven shape (now (sent .entry)) (now (received .entry)) purpose ⌝ }
+    ensures { λ r. ⌜ r .answer ≡ answerTo (moveQuestion (lent shape (now (sent .entry)) (now (received .entry))) purpose) ⌝ }
+    ensures { λ r. ⌜ r .order ≡ orderGiven (lent shape (now (sent .entry)) (now (received .entry))) purpose ⌝ }
 {
     let question = question(shape, sent, received, purpose);
     if question != 0 {

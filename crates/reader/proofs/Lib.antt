@@ -1,8 +1,8 @@
 pub mod Answers
 pub mod BookRows
 pub mod BookTurns
-pub mod CheckpointTurns
-pub mod CounterTurns
+pub mod CheckpointLoop
+pub mod CounterLoop
 pub mod ProcessRows
 pub mod ProcessTurns
 pub mod ProcessesTurns

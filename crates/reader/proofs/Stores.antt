@@ -1,11 +1,12 @@
 -- Stores into a table: a store within a run, what a run leaves as it was, and runs of zeros on zeros.
-use mathlib.Core.Path.{_≡_, refl, sym, ap, ap₂, _∙_}
-use mathlib.Core.List.{List, [], _∷_, _++_, append-nil}
+use mathlib.Core.Path.{_≡_, refl, sym, ap, _∙_}
+use mathlib.Core.List.{List, [], _∷_, _++_}
 use Prim.Native.Nat.{ℕ, zero, suc, _+_, _-_, _≤_, _<_}
-use native.Mathlib.Numerals.{add-one}
 use native.Mathlib.Omega.{arith}
-use lib.ListN.{length, take, drop, getD, set, replicate, length-append, length-take, length-drop, length-replicate, drop-of-length-le}
-use lib.Seq.{sets, sets-eq, set-at, set-comm, set-set, set-getD, getD-set-other, length-take-le, take-suc, take-all, drop-cons, append-snoc}
+use lib.ListN.{length, drop, set, replicate, length-replicate}
+use lib.Seq.{sets, sets-eq, set-comm, set-set, set-getD}
+use Rattle.lists.proofs.Over.{replicate-at}
+use Rattle.lists.proofs.Stores.{getD-past}
 use Rattle.book.specs.Tables.{padded}
 use Rattle.reader.specs.Parts.{clearFrom, emptyTable}
 
@@ -25,15 +26,6 @@ set-within (x ∷ vs) l i zero c v h e =
     (set-below vs (set l i x) (suc i) i v (omega arith) ∙ ap (λ (m : List ℕ). sets m (suc i) vs) (set-set l i x v))
 set-within (x ∷ vs) l i (suc m) c v h e = set-within vs (set l i x) (suc i) m c v (omega arith) (omega arith)
 
--- entries before a run, and after it
-pub getD-below : (vs l : List ℕ) (k i : ℕ) → i < k → getD (sets l k vs) i 0 ≡ getD l i 0
-getD-below [] l k i h = refl
-getD-below (x ∷ vs) l k i h = getD-below vs (set l k x) (suc k) i (omega arith) ∙ getD-set-other l k i x 0 (λ e. omega arith)
-
-getD-past : (vs l : List ℕ) (k i : ℕ) → k + length vs ≤ i → getD (sets l k vs) i 0 ≡ getD l i 0
-getD-past [] l k i h = refl
-getD-past (x ∷ vs) l k i h = getD-past vs (set l k x) (suc k) i (omega arith) ∙ getD-set-other l k i x 0 (λ e. omega arith)
-
 -- after a run the table is as clear as it was
 pub clear-past : (vs l : List ℕ) (start : ℕ) → clearFrom start l → clearFrom (start + length vs) (sets l start vs)
 clear-past vs l start h i k = getD-past vs l start i k ∙ h i (omega arith)
@@ -44,11 +36,6 @@ clear-same zero start l h = refl
 clear-same (suc m) start l h =
     let same : set l start 0 ≡ l = ap (λ (v : ℕ). set l start v) (sym (h start (omega arith))) ∙ set-getD l start 0 in
     ap (λ (t : List ℕ). sets t (suc start) (replicate m 0)) same ∙ clear-same m (suc start) l (λ i k. h i (omega arith))
-
-zeros-clear : (m i : ℕ) → _≡_ {A = ℕ} (getD (replicate m 0) i 0) 0
-zeros-clear zero i = refl
-zeros-clear (suc m) zero = refl
-zeros-clear (suc m) (suc i) = zeros-clear m i
 
 drop-zeros : (k m : ℕ) → drop {A = ℕ} k (replicate m 0) ≡ replicate (m - k) 0
 drop-zeros zero m = let e : m - 0 ≡ m = omega arith in rw e
@@ -72,36 +59,9 @@ empty-length table e = ap length e ∙ empty-long
 
 pub empty-clear : (start : ℕ) → clearFrom start emptyTable
 unfolding emptyTable
-empty-clear start i h = zeros-clear 4096 i
+empty-clear start i h = replicate-at 4096 0 i
 
 -- rows in an empty table, with zeros after them
 pub empty-rows : (rows : List ℕ) → length rows ≤ 4096 → sets emptyTable 0 rows ≡ padded 4096 rows
 unfolding emptyTable
 empty-rows rows h = sets-zeros 4096 rows h
-
--- a copy of a table: so many entries are copied
-pub record Copied (from to₀ to : List ℕ) (i : ℕ) : Type 0 where
-  pub within : i ≤ 4096
-  pub present : to ≡ take i from ++ drop i to₀
-
-pub copied-begun : (from to : List ℕ) → Copied from to to 0
-copied-begun from to = record { within = omega arith; present = refl }
-
-module _ (from to₀ to : List ℕ) (i : ℕ) (inv : Copied from to₀ to i) (long : length from ≡ 4096) (long′ : length to₀ ≡ 4096) where
-  pub copied-length : length to ≡ length to₀
-  copied-length = ap length (inv .present) ∙ simp (length-append, length-take, length-drop) (omega (arith, inv .within))
-
-  pub copied-more : i < 4096 → Copied from to₀ (set to i (getD from i 0)) (i + 1)
-  copied-more h =
-      record {
-        within = omega arith;
-        present = ap (λ (l : List ℕ). set l i (getD from i 0)) (inv .present ∙ ap (λ (l : List ℕ). take i from ++ l) (drop-cons to₀ i 0 (omega arith)))
-            ∙ set-at (take i from) (getD to₀ i 0) (drop (suc i) to₀) (getD from i 0) i (length-take-le i from (omega arith))
-            ∙ sym (append-snoc (take i from) (getD from i 0) (drop (suc i) to₀))
-            ∙ ap (λ (l : List ℕ). l ++ drop (suc i) to₀) (sym (take-suc from i 0 (omega arith)))
-            ∙ ap (λ (m : ℕ). take m from ++ drop m to₀) (sym (add-one i));
-      }
-
-  pub copied-ended : 4096 ≤ i → to ≡ from
-  copied-ended h =
-      inv .present ∙ ap₂ (λ (a b : List ℕ). a ++ b) (take-all i from (omega arith)) (drop-of-length-le to₀ {i = i} (omega arith)) ∙ append-nil from

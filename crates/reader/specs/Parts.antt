@@ -1,7 +1,7 @@
 -- What the pass over a part of a book promises: which question it fails first, where its numbers end, and what stands in
 -- the tables where none fails. On a refusal the tables are left free: they are the pass's own.
 use mathlib.Core.Path.{_≡_}
-use mathlib.Core.Bool.{Bool, true, false, _&&_}
+use mathlib.Core.Bool.{Bool, false, _&&_}
 use mathlib.Core.List.{List, [], _∷_}
 use Prim.Native.Nat.{ℕ, suc, _+_, _*_, _-_, _≤_, _<_}
 use lib.ListN.{length, take, drop, getD, replicate}
@@ -55,8 +55,8 @@ pub record RowsClear (n j first count : ℕ) (table : List ℕ) : Type 0 where
   pub clear : clearFrom (first * rowWidth) table
 
 -- the counters of one row were taken
-pub record RowTaken (oldest : Bool) (n j start : ℕ) (s : List ℕ) (at : ℕ) (step : Step) (table₀ table : List ℕ) : Type 0 where
-  pub asked : step .question ≡ countersQuestion mark oldest (countersBefore oldest n j start table₀) (numbersFrom s at .found)
+pub record RowTaken (oldest zeros : Bool) (n j start : ℕ) (s : List ℕ) (at : ℕ) (step : Step) (table₀ table : List ℕ) : Type 0 where
+  pub asked : step .question ≡ countersQuestion mark zeros (countersBefore oldest n j start table₀) (numbersFrom s at .found)
   pub rest : step .question ≡ 0 → numbersFrom s (step .next) ≡ numbersAfter (n - 1) (numbersFrom s at)
   pub read : step .question ≡ 0 → table ≡ sets table₀ start (tableRow j (take (n - 1) (numbersFrom s at .found)))
 

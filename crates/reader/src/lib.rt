@@ -5,7 +5,6 @@ use book::Counter;
 use book::Shape;
 use varint::Numeral;
 ghost use mathlib.Core.Path.{_≡_};
-ghost use mathlib.Core.Bool.{false};
 ghost use Prim.Native.Nat.{_≤_, _<_};
 ghost use lib.ListN.{length};
 ghost use Rattle.book.specs.Tables.{sentTable, receivedTable};
@@ -73,19 +72,20 @@ fn sizes_question(bytes: usize, sent: usize, received: usize) -> u32
     0
 }
 
-// One row of process j: questions 3 and 6 to 8 of its counters, each put into its column. Books are mostly counters: these are
-// read by the function that has no loop.
+// One row of process j: questions 3 and 6 to 8 of its counters, each put into its column. An oldest row has none before it;
+// `zeros` says whether question 7 is asked. Books are mostly counters: these are read by the function that has no loop.
 fn take_counters(
     s: &[u8],
     at: usize,
     oldest: bool,
+    zeros: bool,
     n: usize,
     j: usize,
     table: &mut [Counter],
     start: usize,
 ) -> Step
     requires { ⌜ RowClear oldest n j start (now table) ⌝ }
-    ensures { λ r. ⌜ RowTaken oldest n j start (now (s .entry)) at r (now (table .entry)) (now (table .exit)) ⌝ }
+    ensures { λ r. ⌜ RowTaken oldest zeros n j start (now (s .entry)) at r (now (table .entry)) (now (table .exit)) ⌝ }
 {
     let mut next = at;
     let mut k = 0;
@@ -95,7 +95,7 @@ fn take_counters(
         };
         let c = start + book::partner_column(j, k);
         let before = book::entry_before(table, c, oldest);
-        let question = book::counter_question(book::MARK, oldest, before, v);
+        let question = book::counter_question(book::MARK, zeros, before, v);
         if question != 0 {
             return Step { question, next };
         }
@@ -125,11 +125,14 @@ fn take_checkpoints(
     let mut r = 0;
     while r < count {
         let start = (first + r) * book::ROW_WIDTH;
-        let in_sent = take_counters(s, next, r == 0, n, j, sent, start);
+        let oldest = r == 0;
+        let zeros = book::sent_zeros(oldest);
+        let in_sent = take_counters(s, next, oldest, zeros, n, j, sent, start);
         if in_sent.question != 0 {
             return in_sent;
         }
-        let in_received = take_counters(s, in_sent.next, r == 0, n, j, received, start);
+        let zeros = book::received_zeros(oldest);
+        let in_received = take_counters(s, in_sent.next, oldest, zeros, n, j, received, start);
         if in_received.question != 0 {
             return in_received;
         }

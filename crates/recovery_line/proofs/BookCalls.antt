@@ -4,6 +4,7 @@ use mathlib.Core.List.{List}
 use Prim.Native.Nat.{ℕ, zero, suc}
 use native.Mathlib.Omega.{arith}
 use lib.ListN.{length}
+use Rattle.book.specs.Lent.{lent}
 use Rattle.book.specs.declared.Answer.{Answer}
 use Rattle.book.specs.declared.Shape.{Shape}
 use Rattle.book.specs.declared.WriteAnswer.{WriteAnswer}
@@ -65,14 +66,14 @@ module _ (bytes shape sent received : List ℕ) {q : ℕ} (same : q ≡ shapeQue
 module _ (shape sent received : List ℕ) {q : ℕ} (same : q ≡ shapeQuestion shape) where
   pub check-wrong : (q ≡ 0 → ⊥) → q ≡ checkAnswer shape sent received
   unfolding checkAnswer
-  check-wrong some = wrong same (λ _. tablesQuestion (shapeIn shape) sent received) some
+  check-wrong some = wrong same (λ _. tablesQuestion (lent (shapeIn shape) sent received)) some
 
-  pub check-asked : q ≡ 0 → {given : Shape} → given ≡ shapeIn shape → {r : ℕ} → r ≡ tablesQuestion given sent received
+  pub check-asked : q ≡ 0 → {given : Shape} → given ≡ shapeIn shape → {r : ℕ} → r ≡ tablesQuestion (lent given sent received)
       → r ≡ checkAnswer shape sent received
   unfolding checkAnswer
   check-asked none given-is e =
-      asked same (λ _. tablesQuestion (shapeIn shape) sent received) none
-      (e ∙ (λ t. tablesQuestion (given-is t) sent received))
+      asked same (λ _. tablesQuestion (lent (shapeIn shape) sent received)) none
+      (e ∙ (λ t. tablesQuestion (lent (given-is t) sent received)))
 
 -- ---- write
 
@@ -87,10 +88,10 @@ refusal-given (suc q) long {r} e = let f : r ≡ suc q = cc in (f, λ none. absu
 
 module _ (shape sent received out : List ℕ) (before : ℕ) {q : ℕ} (same : q ≡ shapeQuestion shape) where
   abbrev inside : ℕ
-  inside = writeQuestion (shapeIn shape) sent received out
+  inside = writeQuestion (lent (shapeIn shape) sent received) out
 
   abbrev long : ℕ
-  long = length (bytesOf (shapeIn shape) sent received)
+  long = length (bytesOf (lent (shapeIn shape) sent received))
 
   abbrev Written : ℕ → List ℕ → ℕ → Type 0
   Written r out′ length′ =
@@ -104,11 +105,11 @@ module _ (shape sent received out : List ℕ) (before : ℕ) {q : ℕ} (same : q
       (e, (kept e out _ some, kept e before _ some))
 
   module _ (none : q ≡ 0) {given : Shape} (given-is : given ≡ shapeIn shape) {answer : WriteAnswer}
-      (answers : answer ≡ inner.answerToWrite given sent received out) {out′ : List ℕ} (left : out′ ≡ bytesWritten given sent received out)
+      (answers : answer ≡ inner.answerToWrite (lent given sent received) out) {out′ : List ℕ} (left : out′ ≡ bytesWritten (lent given sent received) out)
     where
       answer-is : answer ≡ lengthOr inside long
       unfolding inner.answerToWrite
-      answer-is = answers ∙ (λ t. inner.answerToWrite (given-is t) sent received out)
+      answer-is = answers ∙ (λ t. inner.answerToWrite (lent (given-is t) sent received) out)
 
       write-answered : {r : ℕ} → r ≡ inside → r ≡ writeAnswer shape sent received out
       unfolding writeAnswer
@@ -118,7 +119,7 @@ module _ (shape sent received out : List ℕ) (before : ℕ) {q : ℕ} (same : q
       unfolding writeOut bytesWritten
       buffer e =
           through (writeAnswer shape sent received out) inside out _ (write-answered e) e
-          (left ∙ (λ t. bytesWritten (given-is t) sent received out))
+          (left ∙ (λ t. bytesWritten (lent (given-is t) sent received) out))
 
       pub write-refused : {r : ℕ} → answer ≡ Refused r → Written r out′ before
       unfolding writeLength

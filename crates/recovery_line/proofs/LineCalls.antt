@@ -7,6 +7,7 @@ use native.Mathlib.Omega.{arith}
 use lib.ListN.{length, set}
 use lib.Seq.{sets}
 use borrow.Author.Tests.{not-true}
+use Rattle.book.specs.Lent.{lent}
 use Rattle.book.specs.declared.Answer.{Answer}
 use Rattle.book.specs.declared.Shape.{Shape}
 use Rattle.book.specs.declared.Process.{Process}
@@ -48,7 +49,7 @@ module _ (shape sent received set pair : List ℕ) {q : ℕ}
     (same : q ≡ ask wrongLength (isLong shapeLength shape && (isLong setLength set && isLong pairLength pair)))
   where
     abbrev inside : ℕ
-    inside = testQuestion (shapeIn shape) sent received (setIn set)
+    inside = testQuestion (lent (shapeIn shape) sent received) (setIn set)
 
     -- the answer, and what is left in the slice
     abbrev TestedSet : ℕ → List ℕ → Type 0
@@ -69,13 +70,13 @@ module _ (shape sent received set pair : List ℕ) {q : ℕ}
     test-wrong some = test-untouched (wrong same (λ _. inside) some) some
 
     module _ (none : q ≡ 0) {given : Shape} (given-is : given ≡ shapeIn shape) {named : List Checkpoint} (named-is : named ≡ setIn set)
-        (found : SetAnswer) (tested : Tested given sent received named found)
+        (found : SetAnswer) (tested : Tested (lent given sent received) named found)
       where
-        of-words : {answer : SetAnswer} → found ≡ answer → Tested (shapeIn shape) sent received (setIn set) answer
+        of-words : {answer : SetAnswer} → found ≡ answer → Tested (lent (shapeIn shape) sent received) (setIn set) answer
         of-words {answer} e =
-            subst (λ (s : Shape). Tested s sent received (setIn set) answer) given-is
-            (subst (λ (l : List Checkpoint). Tested given sent received l answer) named-is
-            (subst (λ (a : SetAnswer). Tested given sent received named a) e tested))
+            subst (λ (s : Shape). Tested (lent s sent received) (setIn set) answer) given-is
+            (subst (λ (l : List Checkpoint). Tested (lent given sent received) l answer) named-is
+            (subst (λ (a : SetAnswer). Tested (lent given sent received) named a) e tested))
 
         test-answered : {r : ℕ} → inside ≡ r → r ≡ testAnswer shape sent received set pair
         unfolding testAnswer
@@ -103,7 +104,7 @@ module _ (shape sent received set pair : List ℕ) {q : ℕ}
                   record {
                     when-refused = λ some. absurd (some (sym (test-answered is)));
                     when-consistent = λ _ holds.
-                        absurd (not-consistent (viewOf (shapeIn shape) sent received) (chosen (setIn set)) (j .0) (p .0) at-fault holds);
+                        absurd (not-consistent (viewOf (lent (shapeIn shape) sent received)) (chosen (setIn set)) (j .0) (p .0) at-fault holds);
                     when-not = λ _ _. (refl, at-fault);
                   },
             )
@@ -124,30 +125,30 @@ module _ (shape sent received line : List ℕ) (passed : ℕ) {q : ℕ}
 
     pub find-wrong : (q ≡ 0 → ⊥) → Found q line passed
     unfolding findAnswer
-    find-wrong some = find-untouched (wrong same (λ _. tablesQuestion (shapeIn shape) sent received) some) some
+    find-wrong some = find-untouched (wrong same (λ _. tablesQuestion (lent (shapeIn shape) sent received)) some) some
 
     module _ (none : q ≡ 0) {given : Shape} (given-is : given ≡ shapeIn shape) {answer : Answer} {r : ℕ} (number : r ≡ numberOf answer)
-        (answers : answer ≡ answerTo (tablesQuestion given sent received))
+        (answers : answer ≡ answerTo (tablesQuestion (lent given sent received)))
       where
         find-answered : r ≡ findAnswer shape sent received line
         unfolding findAnswer
         find-answered =
-            let to : answer ≡ answerTo (tablesQuestion (shapeIn shape) sent received) = answers ∙ (λ t. answerTo (tablesQuestion (given-is t) sent received)) in
-            asked same (λ _. tablesQuestion (shapeIn shape) sent received) none
-            (question-is (tablesQuestion (shapeIn shape) sent received) number to)
+            let to : answer ≡ answerTo (tablesQuestion (lent (shapeIn shape) sent received)) = answers ∙ (λ t. answerTo (tablesQuestion (lent (given-is t) sent received))) in
+            asked same (λ _. tablesQuestion (lent (shapeIn shape) sent received)) none
+            (question-is (tablesQuestion (lent (shapeIn shape) sent received)) number to)
 
         pub find-refused : (r ≡ 0 → ⊥) → Found r line passed
         find-refused some = find-untouched find-answered some
 
-        pub find-found : r ≡ 0 → {found : List Checkpoint} → found ≡ lineFound given sent received
+        pub find-found : r ≡ 0 → {found : List Checkpoint} → found ≡ lineFound (lent given sent received)
             → {line′ : List ℕ} → line′ ≡ sets line 0 (setWords found)
-            → {newer : ℕ} → newer ≡ passedFound given sent received → {passed′ : ℕ} → passed′ ≡ newer → Found 0 line′ passed′
+            → {newer : ℕ} → newer ≡ passedFound (lent given sent received) → {passed′ : ℕ} → passed′ ≡ newer → Found 0 line′ passed′
         unfolding findLine findPassed
         find-found zeroed {found} stand left counted left′ =
             let place = set-put line (two-long shapeLength setLength shape line same none .1) found left in (
               sym zeroed ∙ find-answered,
               (
-                put find-answered line _ zeroed (place ∙ ap setWords (stand ∙ (λ t. lineFound (given-is t) sent received))),
-                put find-answered passed _ zeroed (left′ ∙ counted ∙ (λ t. passedFound (given-is t) sent received)),
+                put find-answered line _ zeroed (place ∙ ap setWords (stand ∙ (λ t. lineFound (lent (given-is t) sent received)))),
+                put find-answered passed _ zeroed (left′ ∙ counted ∙ (λ t. passedFound (lent (given-is t) sent received))),
               ),
             )

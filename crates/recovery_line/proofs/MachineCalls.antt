@@ -4,6 +4,7 @@ use mathlib.Core.Bool.{_&&_}
 use mathlib.Core.List.{List}
 use Prim.Native.Nat.{ℕ}
 use lib.Seq.{sets}
+use Rattle.book.specs.Lent.{lent}
 use Rattle.book.specs.declared.Answer.{Answer}
 use Rattle.book.specs.declared.Shape.{Shape}
 use Rattle.book.specs.InTurn.{_then_, ask, answerTo, unlessRefused}
@@ -11,10 +12,10 @@ use Rattle.participant.specs.declared.Participant.{Participant}
 use Rattle.participant.specs.Calls as participant
 use Rattle.initiator.specs.declared.Initiator.{Initiator}
 use Rattle.initiator.specs.Calls as initiator
-use Rattle.words.specs.Words.{shapeLength, lengthsLength, participantLength, initiatorLength, wrongLength, isLong}
+use Rattle.words.specs.Words.{shapeLength, lengthsLength, wrongLength, isLong}
 use Rattle.words.specs.Plain.{numberOf, shapeIn, numberWords}
-use Rattle.words.specs.Participant.{participantWords, participantIn}
-use Rattle.words.specs.Initiator.{initiatorWords, initiatorIn}
+use Rattle.words.specs.Participant.{participantLength, participantWords, participantIn}
+use Rattle.words.specs.Initiator.{initiatorLength, initiatorWords, initiatorIn}
 use Rattle.state_words.proofs.Lengths.{length-participant, length-initiator}
 use Rattle.recovery_line.specs.Machines.{asProcess, participantFirstAnswer, participantFirstState, participantReceiveAnswer, participantReceiveState, participantReceiveOut, participantReceiveLengths, initiatorBeginAnswer, initiatorBeginState, initiatorBeginOut, initiatorBeginLengths, initiatorReceiveAnswer, initiatorReceiveState, initiatorReceiveOut, initiatorReceiveLengths}
 use Rattle.recovery_line.proofs.Shells.{two-long, three-long, wrong, asked, question-is, kept, put, through, put-whole, numbers-put}
@@ -25,7 +26,7 @@ module _ (shape sent received : List ℕ) (me inviter purpose : ℕ) (state : Li
     (same : q ≡ ask wrongLength (isLong shapeLength shape && isLong participantLength state))
   where
     abbrev first-inside : ℕ
-    first-inside = participant.firstQuestion (shapeIn shape) sent received me inviter purpose
+    first-inside = participant.firstQuestion (lent (shapeIn shape) sent received) me inviter purpose
 
     abbrev first-answer : ℕ
     first-answer = participantFirstAnswer shape sent received me inviter purpose state
@@ -44,25 +45,25 @@ module _ (shape sent received : List ℕ) (me inviter purpose : ℕ) (state : Li
 
     module _ (none : q ≡ 0) {given : Shape} (given-is : given ≡ shapeIn shape) {p i : ℕ} (p-is : p ≡ me) (i-is : i ≡ inviter)
         {answer : Answer} {r : ℕ} (number : r ≡ numberOf answer)
-        (answers : answer ≡ answerTo (participant.firstQuestion given sent received p i purpose))
+        (answers : answer ≡ answerTo (participant.firstQuestion (lent given sent received) p i purpose))
       where
         first-answered : r ≡ first-answer
         unfolding participantFirstAnswer
         first-answered =
             let to : answer ≡ answerTo first-inside =
-            answers ∙ (λ t. answerTo (participant.firstQuestion (given-is t) sent received (p-is t) (i-is t) purpose)) in
+            answers ∙ (λ t. answerTo (participant.firstQuestion (lent (given-is t) sent received) (p-is t) (i-is t) purpose)) in
             asked same (λ _. first-inside) none (question-is first-inside number to)
 
         pub first-refused : (r ≡ 0 → ⊥) → First r state
         first-refused some = first-untouched first-answered some
 
-        pub first-made : r ≡ 0 → {made : Participant} → made ≡ participant.firstState given sent received (asProcess p) (asProcess i) purpose
+        pub first-made : r ≡ 0 → {made : Participant} → made ≡ participant.firstState (lent given sent received) (asProcess p) (asProcess i) purpose
             → {state′ : List ℕ} → state′ ≡ sets state 0 (participantWords made) → First 0 state′
         unfolding participantFirstState
         first-made zeroed {made} e put-there =
             let long = two-long shapeLength participantLength shape state same none .1 in
             let there = put-whole (participantWords made) state (length-participant made) long put-there in
-            let is = e ∙ (λ t. participant.firstState (given-is t) sent received (asProcess (p-is t)) (asProcess (i-is t)) purpose) in
+            let is = e ∙ (λ t. participant.firstState (lent (given-is t) sent received) (asProcess (p-is t)) (asProcess (i-is t)) purpose) in
             (sym zeroed ∙ first-answered, put first-answered state _ zeroed (there ∙ ap participantWords is))
 
 -- ---- a step of either machine: its state and lengths are put, and the call inside writes to the buffer
@@ -108,7 +109,7 @@ module _ (state shape sent received message out lengths : List ℕ) {q : ℕ}
     receive-long = ask wrongLength (isLong shapeLength shape && (isLong participantLength state && isLong lengthsLength lengths))
 
     abbrev receive-inside : ℕ
-    receive-inside = participant.receiveQuestion (shapeIn shape) sent received (participantIn state) message out
+    receive-inside = participant.receiveQuestion (lent (shapeIn shape) sent received) (participantIn state) message out
 
     abbrev Received : ℕ → List ℕ → List ℕ → List ℕ → Type 0
     Received r state′ out′ lengths′ =
@@ -123,31 +124,31 @@ module _ (state shape sent received message out lengths : List ℕ) {q : ℕ}
 
     module _ (none : q ≡ 0) {given : Shape} (given-is : given ≡ shapeIn shape) {machine : Participant} (machine-is : machine ≡ participantIn state)
         {answer : Answer} {r : ℕ} (number : r ≡ numberOf answer)
-        (answers : answer ≡ answerTo (participant.receiveQuestion given sent received machine message out))
-        {out′ : List ℕ} (left : out′ ≡ participant.bytesAfter given sent received machine message out)
+        (answers : answer ≡ answerTo (participant.receiveQuestion (lent given sent received) machine message out))
+        {out′ : List ℕ} (left : out′ ≡ participant.bytesAfter (lent given sent received) machine message out)
       where
         of-receive : r ≡ receive-inside
         of-receive =
             question-is receive-inside number
-            (answers ∙ (λ t. answerTo (participant.receiveQuestion (given-is t) sent received (machine-is t) message out)))
+            (answers ∙ (λ t. answerTo (participant.receiveQuestion (lent (given-is t) sent received) (machine-is t) message out)))
 
-        receive-left : out′ ≡ participant.bytesAfter (shapeIn shape) sent received (participantIn state) message out
-        receive-left = left ∙ (λ t. participant.bytesAfter (given-is t) sent received (machine-is t) message out)
+        receive-left : out′ ≡ participant.bytesAfter (lent (shapeIn shape) sent received) (participantIn state) message out
+        receive-left = left ∙ (λ t. participant.bytesAfter (lent (given-is t) sent received) (machine-is t) message out)
 
         pub receive-refused : (r ≡ 0 → ⊥) → Received r state out′ lengths
         unfolding participantReceiveAnswer participantReceiveState participantReceiveOut participantReceiveLengths participant.bytesAfter
         receive-refused some = step-refused receive-long receive-inside state out lengths _ _ _ same none of-receive receive-left some
 
-        pub receive-done : r ≡ 0 → {next : Participant} → next ≡ participant.stateAfter given sent received machine message out
+        pub receive-done : r ≡ 0 → {next : Participant} → next ≡ participant.stateAfter (lent given sent received) machine message out
             → {state′ : List ℕ} → state′ ≡ sets state 0 (participantWords next)
-            → {counts : List ℕ} → counts ≡ participant.lengthsAfter given sent received machine message out
+            → {counts : List ℕ} → counts ≡ participant.lengthsAfter (lent given sent received) machine message out
             → {lengths′ : List ℕ} → lengths′ ≡ sets lengths 0 (numberWords counts) → Received 0 state′ out′ lengths′
         unfolding participantReceiveAnswer participantReceiveState participantReceiveOut participantReceiveLengths participant.bytesAfter
         receive-done zeroed {next} e put-there {counts} f put-there′ =
             let long = three-long shapeLength participantLength lengthsLength shape state lengths same none .1 in
             let there = put-whole (participantWords next) state (length-participant next) (long .0) put-there in
-            let is = e ∙ (λ t. participant.stateAfter (given-is t) sent received (machine-is t) message out) in
-            let are = f ∙ (λ t. participant.lengthsAfter (given-is t) sent received (machine-is t) message out) in
+            let is = e ∙ (λ t. participant.stateAfter (lent (given-is t) sent received) (machine-is t) message out) in
+            let are = f ∙ (λ t. participant.lengthsAfter (lent (given-is t) sent received) (machine-is t) message out) in
             step-done receive-long receive-inside state out lengths _ _ _ same none of-receive receive-left zeroed
             (there ∙ ap participantWords is) (numbers-put lengths (long .1) counts put-there′ ∙ ap numberWords are)
 
@@ -160,7 +161,7 @@ module _ (shape sent received : List ℕ) (me purpose : ℕ) (state out lengths 
     begin-long = ask wrongLength (isLong shapeLength shape && (isLong initiatorLength state && isLong lengthsLength lengths))
 
     abbrev begin-inside : ℕ
-    begin-inside = initiator.beginQuestion (shapeIn shape) sent received (asProcess me) purpose out
+    begin-inside = initiator.beginQuestion (lent (shapeIn shape) sent received) (asProcess me) purpose out
 
     abbrev Begun : ℕ → List ℕ → List ℕ → List ℕ → Type 0
     Begun r state′ out′ lengths′ =
@@ -174,31 +175,31 @@ module _ (shape sent received : List ℕ) (me purpose : ℕ) (state out lengths 
     begin-wrong some = step-wrong begin-long begin-inside state out lengths _ _ _ same some
 
     module _ (none : q ≡ 0) {given : Shape} (given-is : given ≡ shapeIn shape) {p : ℕ} (p-is : p ≡ me) {answer : Answer} {r : ℕ}
-        (number : r ≡ numberOf answer) (answers : answer ≡ answerTo (initiator.beginQuestion given sent received (asProcess p) purpose out))
-        {out′ : List ℕ} (left : out′ ≡ initiator.bytesBegun given sent received (asProcess p) purpose out)
+        (number : r ≡ numberOf answer) (answers : answer ≡ answerTo (initiator.beginQuestion (lent given sent received) (asProcess p) purpose out))
+        {out′ : List ℕ} (left : out′ ≡ initiator.bytesBegun (lent given sent received) (asProcess p) purpose out)
       where
         of-begin : r ≡ begin-inside
         of-begin =
             question-is begin-inside number
-            (answers ∙ (λ t. answerTo (initiator.beginQuestion (given-is t) sent received (asProcess (p-is t)) purpose out)))
+            (answers ∙ (λ t. answerTo (initiator.beginQuestion (lent (given-is t) sent received) (asProcess (p-is t)) purpose out)))
 
-        begin-left : out′ ≡ initiator.bytesBegun (shapeIn shape) sent received (asProcess me) purpose out
-        begin-left = left ∙ (λ t. initiator.bytesBegun (given-is t) sent received (asProcess (p-is t)) purpose out)
+        begin-left : out′ ≡ initiator.bytesBegun (lent (shapeIn shape) sent received) (asProcess me) purpose out
+        begin-left = left ∙ (λ t. initiator.bytesBegun (lent (given-is t) sent received) (asProcess (p-is t)) purpose out)
 
         pub begin-refused : (r ≡ 0 → ⊥) → Begun r state out′ lengths
         unfolding initiatorBeginAnswer initiatorBeginState initiatorBeginOut initiatorBeginLengths initiator.bytesBegun
         begin-refused some = step-refused begin-long begin-inside state out lengths _ _ _ same none of-begin begin-left some
 
-        pub begin-done : r ≡ 0 → {next : Initiator} → next ≡ initiator.stateBegun given sent received (asProcess p) purpose out
+        pub begin-done : r ≡ 0 → {next : Initiator} → next ≡ initiator.stateBegun (lent given sent received) (asProcess p) purpose out
             → {state′ : List ℕ} → state′ ≡ sets state 0 (initiatorWords next)
-            → {counts : List ℕ} → counts ≡ initiator.lengthsBegun given sent received (asProcess p) purpose out
+            → {counts : List ℕ} → counts ≡ initiator.lengthsBegun (lent given sent received) (asProcess p) purpose out
             → {lengths′ : List ℕ} → lengths′ ≡ sets lengths 0 (numberWords counts) → Begun 0 state′ out′ lengths′
         unfolding initiatorBeginAnswer initiatorBeginState initiatorBeginOut initiatorBeginLengths initiator.bytesBegun
         begin-done zeroed {next} e put-there {counts} f put-there′ =
             let long = three-long shapeLength initiatorLength lengthsLength shape state lengths same none .1 in
             let there = put-whole (initiatorWords next) state (length-initiator next) (long .0) put-there in
-            let is = e ∙ (λ t. initiator.stateBegun (given-is t) sent received (asProcess (p-is t)) purpose out) in
-            let are = f ∙ (λ t. initiator.lengthsBegun (given-is t) sent received (asProcess (p-is t)) purpose out) in
+            let is = e ∙ (λ t. initiator.stateBegun (lent (given-is t) sent received) (asProcess (p-is t)) purpose out) in
+            let are = f ∙ (λ t. initiator.lengthsBegun (lent (given-is t) sent received) (asProcess (p-is t)) purpose out) in
             step-done begin-long begin-inside state out lengths _ _ _ same none of-begin begin-left zeroed
             (there ∙ ap initiatorWords is) (numbers-put lengths (long .1) counts put-there′ ∙ ap numberWords are)
 
@@ -211,7 +212,7 @@ module _ (state shape sent received message out lengths : List ℕ) {q : ℕ}
     report-long = ask wrongLength (isLong shapeLength shape && (isLong initiatorLength state && isLong lengthsLength lengths))
 
     abbrev report-inside : ℕ
-    report-inside = initiator.receiveQuestion (shapeIn shape) sent received (initiatorIn state) message out
+    report-inside = initiator.receiveQuestion (lent (shapeIn shape) sent received) (initiatorIn state) message out
 
     abbrev Reported : ℕ → List ℕ → List ℕ → List ℕ → Type 0
     Reported r state′ out′ lengths′ =
@@ -226,30 +227,30 @@ module _ (state shape sent received message out lengths : List ℕ) {q : ℕ}
 
     module _ (none : q ≡ 0) {given : Shape} (given-is : given ≡ shapeIn shape) {machine : Initiator} (machine-is : machine ≡ initiatorIn state)
         {answer : Answer} {r : ℕ} (number : r ≡ numberOf answer)
-        (answers : answer ≡ answerTo (initiator.receiveQuestion given sent received machine message out))
-        {out′ : List ℕ} (left : out′ ≡ initiator.bytesAfter given sent received machine message out)
+        (answers : answer ≡ answerTo (initiator.receiveQuestion (lent given sent received) machine message out))
+        {out′ : List ℕ} (left : out′ ≡ initiator.bytesAfter (lent given sent received) machine message out)
       where
         of-report : r ≡ report-inside
         of-report =
             question-is report-inside number
-            (answers ∙ (λ t. answerTo (initiator.receiveQuestion (given-is t) sent received (machine-is t) message out)))
+            (answers ∙ (λ t. answerTo (initiator.receiveQuestion (lent (given-is t) sent received) (machine-is t) message out)))
 
-        report-left : out′ ≡ initiator.bytesAfter (shapeIn shape) sent received (initiatorIn state) message out
-        report-left = left ∙ (λ t. initiator.bytesAfter (given-is t) sent received (machine-is t) message out)
+        report-left : out′ ≡ initiator.bytesAfter (lent (shapeIn shape) sent received) (initiatorIn state) message out
+        report-left = left ∙ (λ t. initiator.bytesAfter (lent (given-is t) sent received) (machine-is t) message out)
 
         pub report-refused : (r ≡ 0 → ⊥) → Reported r state out′ lengths
         unfolding initiatorReceiveAnswer initiatorReceiveState initiatorReceiveOut initiatorReceiveLengths initiator.bytesAfter
         report-refused some = step-refused report-long report-inside state out lengths _ _ _ same none of-report report-left some
 
-        pub report-done : r ≡ 0 → {next : Initiator} → next ≡ initiator.stateAfter given sent received machine message out
+        pub report-done : r ≡ 0 → {next : Initiator} → next ≡ initiator.stateAfter (lent given sent received) machine message out
             → {state′ : List ℕ} → state′ ≡ sets state 0 (initiatorWords next)
-            → {counts : List ℕ} → counts ≡ initiator.lengthsAfter given sent received machine message out
+            → {counts : List ℕ} → counts ≡ initiator.lengthsAfter (lent given sent received) machine message out
             → {lengths′ : List ℕ} → lengths′ ≡ sets lengths 0 (numberWords counts) → Reported 0 state′ out′ lengths′
         unfolding initiatorReceiveAnswer initiatorReceiveState initiatorReceiveOut initiatorReceiveLengths initiator.bytesAfter
         report-done zeroed {next} e put-there {counts} f put-there′ =
             let long = three-long shapeLength initiatorLength lengthsLength shape state lengths same none .1 in
             let there = put-whole (initiatorWords next) state (length-initiator next) (long .0) put-there in
-            let is = e ∙ (λ t. initiator.stateAfter (given-is t) sent received (machine-is t) message out) in
-            let are = f ∙ (λ t. initiator.lengthsAfter (given-is t) sent received (machine-is t) message out) in
+            let is = e ∙ (λ t. initiator.stateAfter (lent (given-is t) sent received) (machine-is t) message out) in
+            let are = f ∙ (λ t. initiator.lengthsAfter (lent (given-is t) sent received) (machine-is t) message out) in
             step-done report-long report-inside state out lengths _ _ _ same none of-report report-left zeroed
             (there ∙ ap initiatorWords is) (numbers-put lengths (long .1) counts put-there′ ∙ ap numberWords are)

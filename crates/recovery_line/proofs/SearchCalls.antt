@@ -4,6 +4,7 @@ use mathlib.Core.Bool.{_&&_}
 use mathlib.Core.List.{List}
 use Prim.Native.Nat.{ℕ}
 use lib.Seq.{sets}
+use Rattle.book.specs.Lent.{lent}
 use Rattle.book.specs.declared.Answer.{Answer}
 use Rattle.book.specs.declared.Shape.{Shape}
 use Rattle.book.specs.declared.Checkpoint.{Checkpoint}
@@ -19,7 +20,7 @@ module _ (shape sent received : List ℕ) (initiator purpose : ℕ) (set : List 
     (same : q ≡ ask wrongLength (isLong shapeLength shape && isLong setLength set))
   where
     abbrev inside : ℕ
-    inside = searchQuestion (shapeIn shape) sent received (asProcess initiator) purpose
+    inside = searchQuestion (lent (shapeIn shape) sent received) (asProcess initiator) purpose
 
     abbrev answer-put : ℕ
     answer-put = searchAnswer shape sent received initiator purpose set
@@ -43,30 +44,30 @@ module _ (shape sent received : List ℕ) (initiator purpose : ℕ) (set : List 
     search-wrong some = untouched (wrong same (λ _. inside) some) some
 
     module _ (none : q ≡ 0) {given : Shape} (given-is : given ≡ shapeIn shape) {i : ℕ} (i-is : i ≡ initiator) {answer : Answer} {r : ℕ}
-        (number : r ≡ numberOf answer) (answers : answer ≡ answerTo (searchQuestion given sent received (asProcess i) purpose))
+        (number : r ≡ numberOf answer) (answers : answer ≡ answerTo (searchQuestion (lent given sent received) (asProcess i) purpose))
       where
         answered : r ≡ answer-put
         unfolding searchAnswer
         answered =
-            let to : answer ≡ answerTo inside = answers ∙ (λ t. answerTo (searchQuestion (given-is t) sent received (asProcess (i-is t)) purpose)) in
+            let to : answer ≡ answerTo inside = answers ∙ (λ t. answerTo (searchQuestion (lent (given-is t) sent received) (asProcess (i-is t)) purpose)) in
             asked same (λ _. inside) none (question-is inside number to)
 
         pub search-refused : (r ≡ 0 → ⊥) → Searched r set newer rounds messages
         search-refused some = untouched answered some
 
-        module _ (zeroed : r ≡ 0) {found : List Checkpoint} (stand : found ≡ setSearched given sent received (asProcess i) purpose) {set′ : List ℕ}
+        module _ (zeroed : r ≡ 0) {found : List Checkpoint} (stand : found ≡ setSearched (lent given sent received) (asProcess i) purpose) {set′ : List ℕ}
             (left : set′ ≡ sets set 0 (setWords found))
           where
             set-left : set′ ≡ searchSet shape sent received initiator purpose set
             unfolding searchSet
             set-left =
                 let place = set-put set (two-long shapeLength setLength shape set same none .1) found left in
-                let there = stand ∙ (λ t. setSearched (given-is t) sent received (asProcess (i-is t)) purpose) in
+                let there = stand ∙ (λ t. setSearched (lent (given-is t) sent received) (asProcess (i-is t)) purpose) in
                 put answered set _ zeroed (place ∙ ap setWords there)
 
-            pub search-ended : {later waits turns : ℕ} → later ≡ newerSearched given sent received (asProcess i) purpose
-                → waits ≡ roundsSearched given sent received (asProcess i) purpose
-                → turns ≡ messagesSearched given sent received (asProcess i) purpose
+            pub search-ended : {later waits turns : ℕ} → later ≡ newerSearched (lent given sent received) (asProcess i) purpose
+                → waits ≡ roundsSearched (lent given sent received) (asProcess i) purpose
+                → turns ≡ messagesSearched (lent given sent received) (asProcess i) purpose
                 → {newer′ rounds′ messages′ : ℕ} → newer′ ≡ later → rounds′ ≡ waits → messages′ ≡ turns
                 → Searched 0 set′ newer′ rounds′ messages′
             unfolding searchNewer searchRounds searchMessages
@@ -76,12 +77,12 @@ module _ (shape sent received : List ℕ) (initiator purpose : ℕ) (set : List 
                 set-left,
                 (
                   put answered newer _ zeroed
-                      (e′ ∙ e ∙ (λ t. newerSearched (given-is t) sent received (asProcess (i-is t)) purpose)),
+                      (e′ ∙ e ∙ (λ t. newerSearched (lent (given-is t) sent received) (asProcess (i-is t)) purpose)),
                   (
                     put answered rounds _ zeroed
-                        (f′ ∙ f ∙ (λ t. roundsSearched (given-is t) sent received (asProcess (i-is t)) purpose)),
+                        (f′ ∙ f ∙ (λ t. roundsSearched (lent (given-is t) sent received) (asProcess (i-is t)) purpose)),
                     put answered messages _ zeroed
-                        (g′ ∙ g ∙ (λ t. messagesSearched (given-is t) sent received (asProcess (i-is t)) purpose)),
+                        (g′ ∙ g ∙ (λ t. messagesSearched (lent (given-is t) sent received) (asProcess (i-is t)) purpose)),
                   ),
                 ),
               ),

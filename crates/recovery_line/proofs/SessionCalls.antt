@@ -3,14 +3,15 @@ use mathlib.Core.Path.{_≡_, sym, ap, _∙_}
 use mathlib.Core.Bool.{_&&_}
 use mathlib.Core.List.{List}
 use Prim.Native.Nat.{ℕ}
+use Rattle.book.specs.Lent.{lent}
 use Rattle.book.specs.declared.Answer.{Answer}
 use Rattle.book.specs.declared.Shape.{Shape}
 use Rattle.book.specs.InTurn.{ask, answerTo}
 use Rattle.session.specs.declared.Session.{Session}
 use Rattle.session.specs.Calls.{startQuestion, sessionStarted, strandsStarted, turnQuestion, sessionAfter, strandsAfter}
-use Rattle.words.specs.Words.{shapeLength, sessionLength, wrongLength, isLong}
+use Rattle.words.specs.Words.{shapeLength, wrongLength, isLong}
 use Rattle.words.specs.Plain.{numberOf, shapeIn}
-use Rattle.words.specs.Session.{sessionWords, sessionIn}
+use Rattle.words.specs.Session.{sessionLength, sessionWords, sessionIn}
 use Rattle.recovery_line.specs.Machines.{asProcess}
 use Rattle.recovery_line.specs.Sessions.{startAnswer, startSession, startStrands, turnAnswer, turnSession, turnStrands}
 use Rattle.recovery_line.proofs.Shells.{wrong, asked, question-is, kept, put, through}
@@ -21,7 +22,7 @@ module _ (shape sent received : List ℕ) (initiator purpose : ℕ) (session str
     (same : q ≡ ask wrongLength (isLong shapeLength shape && isLong sessionLength session))
   where
     abbrev start-inside : ℕ
-    start-inside = startQuestion (shapeIn shape) sent received (asProcess initiator) purpose strands
+    start-inside = startQuestion (lent (shapeIn shape) sent received) (asProcess initiator) purpose strands
 
     abbrev start-answer : ℕ
     start-answer = startAnswer shape sent received initiator purpose session strands
@@ -40,13 +41,13 @@ module _ (shape sent received : List ℕ) (initiator purpose : ℕ) (session str
         (e, (kept e session _ some, kept e strands _ some))
 
     module _ (none : q ≡ 0) {given : Shape} (given-is : given ≡ shapeIn shape) {i : ℕ} (i-is : i ≡ initiator) {answer : Answer} {r : ℕ}
-        (number : r ≡ numberOf answer) (answers : answer ≡ answerTo (startQuestion given sent received (asProcess i) purpose strands))
-        {strands′ : List ℕ} (left : strands′ ≡ strandsStarted given sent received (asProcess i) purpose strands)
+        (number : r ≡ numberOf answer) (answers : answer ≡ answerTo (startQuestion (lent given sent received) (asProcess i) purpose strands))
+        {strands′ : List ℕ} (left : strands′ ≡ strandsStarted (lent given sent received) (asProcess i) purpose strands)
       where
         of-start : r ≡ start-inside
         of-start =
             question-is start-inside number
-            (answers ∙ (λ t. answerTo (startQuestion (given-is t) sent received (asProcess (i-is t)) purpose strands)))
+            (answers ∙ (λ t. answerTo (startQuestion (lent (given-is t) sent received) (asProcess (i-is t)) purpose strands)))
 
         start-answered : r ≡ start-answer
         unfolding startAnswer
@@ -56,17 +57,17 @@ module _ (shape sent received : List ℕ) (initiator purpose : ℕ) (session str
         unfolding startStrands strandsStarted
         start-left =
             through start-answer start-inside strands _ start-answered of-start
-            (left ∙ (λ t. strandsStarted (given-is t) sent received (asProcess (i-is t)) purpose strands))
+            (left ∙ (λ t. strandsStarted (lent (given-is t) sent received) (asProcess (i-is t)) purpose strands))
 
         pub start-refused : (r ≡ 0 → ⊥) → Started r session strands′
         unfolding startSession
         start-refused some = (start-answered, (kept start-answered session _ some, start-left))
 
-        pub start-done : r ≡ 0 → {next : Session} → next ≡ sessionStarted given sent received (asProcess i) purpose strands
+        pub start-done : r ≡ 0 → {next : Session} → next ≡ sessionStarted (lent given sent received) (asProcess i) purpose strands
             → {session′ : List ℕ} → session′ ≡ sessionWords next → Started 0 session′ strands′
         unfolding startSession
         start-done zeroed e put-there =
-            let begun = e ∙ (λ t. sessionStarted (given-is t) sent received (asProcess (i-is t)) purpose strands) in
+            let begun = e ∙ (λ t. sessionStarted (lent (given-is t) sent received) (asProcess (i-is t)) purpose strands) in
             (sym zeroed ∙ start-answered, (put start-answered session _ zeroed (put-there ∙ ap sessionWords begun), start-left))
 
 -- ---- turn
@@ -75,7 +76,7 @@ module _ (session shape sent received : List ℕ) (p : ℕ) (strands : List ℕ)
     (same : q ≡ ask wrongLength (isLong shapeLength shape && isLong sessionLength session))
   where
     abbrev turn-inside : ℕ
-    turn-inside = turnQuestion (shapeIn shape) sent received (sessionIn session) (asProcess p) strands
+    turn-inside = turnQuestion (lent (shapeIn shape) sent received) (sessionIn session) (asProcess p) strands
 
     abbrev turn-answer : ℕ
     turn-answer = turnAnswer session shape sent received p strands
@@ -94,13 +95,13 @@ module _ (session shape sent received : List ℕ) (p : ℕ) (strands : List ℕ)
 
     module _ (none : q ≡ 0) {given : Shape} (given-is : given ≡ shapeIn shape) {k : ℕ} (k-is : k ≡ p) {held : Session}
         (held-is : held ≡ sessionIn session) {answer : Answer} {r : ℕ} (number : r ≡ numberOf answer)
-        (answers : answer ≡ answerTo (turnQuestion given sent received held (asProcess k) strands))
-        {strands′ : List ℕ} (left : strands′ ≡ strandsAfter given sent received held (asProcess k) strands)
+        (answers : answer ≡ answerTo (turnQuestion (lent given sent received) held (asProcess k) strands))
+        {strands′ : List ℕ} (left : strands′ ≡ strandsAfter (lent given sent received) held (asProcess k) strands)
       where
         of-turn : r ≡ turn-inside
         of-turn =
             question-is turn-inside number
-            (answers ∙ (λ t. answerTo (turnQuestion (given-is t) sent received (held-is t) (asProcess (k-is t)) strands)))
+            (answers ∙ (λ t. answerTo (turnQuestion (lent (given-is t) sent received) (held-is t) (asProcess (k-is t)) strands)))
 
         turn-answered : r ≡ turn-answer
         unfolding turnAnswer
@@ -110,15 +111,15 @@ module _ (session shape sent received : List ℕ) (p : ℕ) (strands : List ℕ)
         unfolding turnStrands strandsAfter
         turn-left =
             through turn-answer turn-inside strands _ turn-answered of-turn
-            (left ∙ (λ t. strandsAfter (given-is t) sent received (held-is t) (asProcess (k-is t)) strands))
+            (left ∙ (λ t. strandsAfter (lent (given-is t) sent received) (held-is t) (asProcess (k-is t)) strands))
 
         pub turn-refused : (r ≡ 0 → ⊥) → Turned r session strands′
         unfolding turnSession
         turn-refused some = (turn-answered, (kept turn-answered session _ some, turn-left))
 
-        pub turn-done : r ≡ 0 → {next : Session} → next ≡ sessionAfter given sent received held (asProcess k) strands
+        pub turn-done : r ≡ 0 → {next : Session} → next ≡ sessionAfter (lent given sent received) held (asProcess k) strands
             → {session′ : List ℕ} → session′ ≡ sessionWords next → Turned 0 session′ strands′
         unfolding turnSession
         turn-done zeroed e put-there =
-            let after = e ∙ (λ t. sessionAfter (given-is t) sent received (held-is t) (asProcess (k-is t)) strands) in
+            let after = e ∙ (λ t. sessionAfter (lent (given-is t) sent received) (held-is t) (asProcess (k-is t)) strands) in
             (sym zeroed ∙ turn-answered, (put turn-answered session _ zeroed (put-there ∙ ap sessionWords after), turn-left))

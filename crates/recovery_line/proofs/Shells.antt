@@ -11,6 +11,7 @@ use borrow.Author.Tests.{eqb-true}
 use Rattle.book.specs.declared.Answer.{Answer}
 use Rattle.book.specs.declared.Checkpoint.{Checkpoint}
 use Rattle.book.specs.InTurn.{_then_, ask, answerTo, unlessRefused}
+use Rattle.book.specs.Bounds.{mostProcesses}
 use Rattle.book.proofs.Questions.{then-passed, then-refused, asked-yes, kept-passed, kept-refused}
 use Rattle.lists.proofs.Tests.{and-both}
 use Rattle.lists.proofs.Over.{length-tab}
@@ -81,9 +82,9 @@ through (suc answer) (suc q) before result e f put = put
 pub put-whole : (vs l : List ℕ) {k : ℕ} {l′ : List ℕ} → length vs ≡ k → length l ≡ k → l′ ≡ sets l 0 vs → l′ ≡ vs
 put-whole vs l e f put-there = sets-all vs l (e ∙ sym f) put-there
 
-pub set-put : (l : List ℕ) → length l ≡ 16 → (set : List Checkpoint) {l′ : List ℕ} → l′ ≡ sets l 0 (setWords set) → l′ ≡ setWords set
-set-put l long set put-there = put-whole (setWords set) l (length-tab 16 (chosen set)) long put-there
+pub set-put : (l : List ℕ) → length l ≡ mostProcesses → (set : List Checkpoint) {l′ : List ℕ} → l′ ≡ sets l 0 (setWords set) → l′ ≡ setWords set
+set-put l long set put-there = put-whole (setWords set) l (length-tab mostProcesses (chosen set)) long put-there
 
-pub numbers-put : (l : List ℕ) → length l ≡ 16 → (numbers : List ℕ) {l′ : List ℕ} → l′ ≡ sets l 0 (numberWords numbers)
+pub numbers-put : (l : List ℕ) → length l ≡ mostProcesses → (numbers : List ℕ) {l′ : List ℕ} → l′ ≡ sets l 0 (numberWords numbers)
     → l′ ≡ numberWords numbers
-numbers-put l long numbers put-there = put-whole (numberWords numbers) l (length-tab 16 (λ i. getD numbers i 0)) long put-there
+numbers-put l long numbers put-there = put-whole (numberWords numbers) l (length-tab mostProcesses (λ i. getD numbers i 0)) long put-there

@@ -3,6 +3,7 @@
 use mathlib.Core.List.{List}
 use Prim.Native.Nat.{ℕ}
 use lib.ListN.{length}
+use Rattle.book.specs.Lent.{lent}
 use Rattle.book.specs.InTurn.{_then_, ask, unlessRefused}
 use Rattle.book.specs.Check.{tablesQuestion}
 use Rattle.book.specs.Read.{readQuestion, shapeRead, sentRead, receivedRead}
@@ -32,16 +33,16 @@ module _ (bytes shape sent received : List ℕ) where
 -- ---- check
 
 unfoldable pub checkAnswer : List ℕ → List ℕ → List ℕ → ℕ
-checkAnswer shape sent received = shapeQuestion shape then λ _. tablesQuestion (shapeIn shape) sent received
+checkAnswer shape sent received = shapeQuestion shape then λ _. tablesQuestion (lent (shapeIn shape) sent received)
 
 -- ---- write
 
 module _ (shape sent received out : List ℕ) where
   unfoldable pub writeAnswer : ℕ
-  writeAnswer = shapeQuestion shape then λ _. writeQuestion (shapeIn shape) sent received out
+  writeAnswer = shapeQuestion shape then λ _. writeQuestion (lent (shapeIn shape) sent received) out
 
   unfoldable pub writeOut : List ℕ
-  writeOut = unlessRefused writeAnswer out (bytesWritten (shapeIn shape) sent received out)
+  writeOut = unlessRefused writeAnswer out (bytesWritten (lent (shapeIn shape) sent received) out)
 
   unfoldable pub writeLength : ℕ → ℕ
-  writeLength before = unlessRefused writeAnswer before (length (bytesOf (shapeIn shape) sent received))
+  writeLength before = unlessRefused writeAnswer before (length (bytesOf (lent (shapeIn shape) sent received)))

@@ -4,6 +4,7 @@ use mathlib.Core.Bool.{Bool, true, false, _&&_}
 use mathlib.Core.List.{List, [], _∷_}
 use Prim.Native.Nat.{ℕ}
 use lib.ListN.{length}
+use Rattle.book.specs.Lent.{lent}
 use Rattle.book.specs.InTurn.{_then_, ask, unlessRefused}
 use Rattle.book.specs.Check.{tablesQuestion}
 use Rattle.line_theory.specs.Sets as sets
@@ -19,10 +20,10 @@ module _ (shape sent received set pair : List ℕ) where
   unfoldable pub testAnswer : ℕ
   testAnswer =
       ask wrongLength (isLong shapeLength shape && (isLong setLength set && isLong pairLength pair))
-      then λ _. testQuestion (shapeIn shape) sent received (setIn set)
+      then λ _. testQuestion (lent (shapeIn shape) sent received) (setIn set)
 
   abbrev pub isConsistent : Bool
-  isConsistent = sets.consistent (viewOf (shapeIn shape) sent received) (chosen (setIn set))
+  isConsistent = sets.consistent (viewOf (lent (shapeIn shape) sent received)) (chosen (setIn set))
 
   -- What holds of the pair afterwards. Which pair at fault is shown is left free, where there are several.
   pub record PairShown (after : List ℕ) : Type 0 where
@@ -30,7 +31,7 @@ module _ (shape sent received set pair : List ℕ) where
     pub when-consistent : testAnswer ≡ 0 → isConsistent ≡ true → after ≡ (0 ∷ (0 ∷ []))
     pub when-not : testAnswer ≡ 0 → isConsistent ≡ false
         → (length after ≡ pairLength)
-        × IsAtFault (viewOf (shapeIn shape) sent received) (chosen (setIn set)) (word after 0) (word after 1)
+        × IsAtFault (viewOf (lent (shapeIn shape) sent received)) (chosen (setIn set)) (word after 0) (word after 1)
 
 -- ---- find the line
 
@@ -38,10 +39,10 @@ module _ (shape sent received line : List ℕ) where
   unfoldable pub findAnswer : ℕ
   findAnswer =
       ask wrongLength (isLong shapeLength shape && isLong setLength line)
-      then λ _. tablesQuestion (shapeIn shape) sent received
+      then λ _. tablesQuestion (lent (shapeIn shape) sent received)
 
   unfoldable pub findLine : List ℕ
-  findLine = unlessRefused findAnswer line (setWords (lineFound (shapeIn shape) sent received))
+  findLine = unlessRefused findAnswer line (setWords (lineFound (lent (shapeIn shape) sent received)))
 
   unfoldable pub findPassed : ℕ → ℕ
-  findPassed before = unlessRefused findAnswer before (passedFound (shapeIn shape) sent received)
+  findPassed before = unlessRefused findAnswer before (passedFound (lent (shapeIn shape) sent received))

@@ -2,14 +2,15 @@
 use mathlib.Core.Bool.{_&&_}
 use mathlib.Core.List.{List}
 use Prim.Native.Nat.{ℕ}
+use Rattle.book.specs.Lent.{lent}
 use Rattle.book.specs.declared.Process.{Process}
 use Rattle.book.specs.InTurn.{_then_, ask, unlessRefused}
 use Rattle.participant.specs.Calls as participant
 use Rattle.initiator.specs.Calls as initiator
-use Rattle.words.specs.Words.{shapeLength, lengthsLength, participantLength, initiatorLength, wrongLength, isLong}
+use Rattle.words.specs.Words.{shapeLength, lengthsLength, wrongLength, isLong}
 use Rattle.words.specs.Plain.{shapeIn, numberWords}
-use Rattle.words.specs.Participant.{participantWords, participantIn}
-use Rattle.words.specs.Initiator.{initiatorWords, initiatorIn}
+use Rattle.words.specs.Participant.{participantLength, participantWords, participantIn}
+use Rattle.words.specs.Initiator.{initiatorLength, initiatorWords, initiatorIn}
 
 -- a process that a call names
 abbrev pub asProcess : ℕ → Process
@@ -21,12 +22,12 @@ module _ (shape sent received : List ℕ) (me inviter purpose : ℕ) (state : Li
   unfoldable pub participantFirstAnswer : ℕ
   participantFirstAnswer =
       ask wrongLength (isLong shapeLength shape && isLong participantLength state)
-      then λ _. participant.firstQuestion (shapeIn shape) sent received me inviter purpose
+      then λ _. participant.firstQuestion (lent (shapeIn shape) sent received) me inviter purpose
 
   unfoldable pub participantFirstState : List ℕ
   participantFirstState =
       unlessRefused participantFirstAnswer state
-      (participantWords (participant.firstState (shapeIn shape) sent received (asProcess me) (asProcess inviter) purpose))
+      (participantWords (participant.firstState (lent (shapeIn shape) sent received) (asProcess me) (asProcess inviter) purpose))
 
 -- ---- a participant receives a message
 
@@ -34,22 +35,22 @@ module _ (state shape sent received message out lengths : List ℕ) where
   unfoldable pub participantReceiveAnswer : ℕ
   participantReceiveAnswer =
       ask wrongLength (isLong shapeLength shape && (isLong participantLength state && isLong lengthsLength lengths))
-      then λ _. participant.receiveQuestion (shapeIn shape) sent received (participantIn state) message out
+      then λ _. participant.receiveQuestion (lent (shapeIn shape) sent received) (participantIn state) message out
 
   unfoldable pub participantReceiveState : List ℕ
   participantReceiveState =
       unlessRefused participantReceiveAnswer state
-      (participantWords (participant.stateAfter (shapeIn shape) sent received (participantIn state) message out))
+      (participantWords (participant.stateAfter (lent (shapeIn shape) sent received) (participantIn state) message out))
 
   unfoldable pub participantReceiveOut : List ℕ
   participantReceiveOut =
       unlessRefused participantReceiveAnswer out
-      (participant.bytesAfter (shapeIn shape) sent received (participantIn state) message out)
+      (participant.bytesAfter (lent (shapeIn shape) sent received) (participantIn state) message out)
 
   unfoldable pub participantReceiveLengths : List ℕ
   participantReceiveLengths =
       unlessRefused participantReceiveAnswer lengths
-      (numberWords (participant.lengthsAfter (shapeIn shape) sent received (participantIn state) message out))
+      (numberWords (participant.lengthsAfter (lent (shapeIn shape) sent received) (participantIn state) message out))
 
 -- ---- an initiator begins
 
@@ -57,22 +58,22 @@ module _ (shape sent received : List ℕ) (me purpose : ℕ) (state out lengths 
   unfoldable pub initiatorBeginAnswer : ℕ
   initiatorBeginAnswer =
       ask wrongLength (isLong shapeLength shape && (isLong initiatorLength state && isLong lengthsLength lengths))
-      then λ _. initiator.beginQuestion (shapeIn shape) sent received (asProcess me) purpose out
+      then λ _. initiator.beginQuestion (lent (shapeIn shape) sent received) (asProcess me) purpose out
 
   unfoldable pub initiatorBeginState : List ℕ
   initiatorBeginState =
       unlessRefused initiatorBeginAnswer state
-      (initiatorWords (initiator.stateBegun (shapeIn shape) sent received (asProcess me) purpose out))
+      (initiatorWords (initiator.stateBegun (lent (shapeIn shape) sent received) (asProcess me) purpose out))
 
   unfoldable pub initiatorBeginOut : List ℕ
   initiatorBeginOut =
       unlessRefused initiatorBeginAnswer out
-      (initiator.bytesBegun (shapeIn shape) sent received (asProcess me) purpose out)
+      (initiator.bytesBegun (lent (shapeIn shape) sent received) (asProcess me) purpose out)
 
   unfoldable pub initiatorBeginLengths : List ℕ
   initiatorBeginLengths =
       unlessRefused initiatorBeginAnswer lengths
-      (numberWords (initiator.lengthsBegun (shapeIn shape) sent received (asProcess me) purpose out))
+      (numberWords (initiator.lengthsBegun (lent (shapeIn shape) sent received) (asProcess me) purpose out))
 
 -- ---- an initiator receives a report
 
@@ -80,19 +81,19 @@ module _ (state shape sent received message out lengths : List ℕ) where
   unfoldable pub initiatorReceiveAnswer : ℕ
   initiatorReceiveAnswer =
       ask wrongLength (isLong shapeLength shape && (isLong initiatorLength state && isLong lengthsLength lengths))
-      then λ _. initiator.receiveQuestion (shapeIn shape) sent received (initiatorIn state) message out
+      then λ _. initiator.receiveQuestion (lent (shapeIn shape) sent received) (initiatorIn state) message out
 
   unfoldable pub initiatorReceiveState : List ℕ
   initiatorReceiveState =
       unlessRefused initiatorReceiveAnswer state
-      (initiatorWords (initiator.stateAfter (shapeIn shape) sent received (initiatorIn state) message out))
+      (initiatorWords (initiator.stateAfter (lent (shapeIn shape) sent received) (initiatorIn state) message out))
 
   unfoldable pub initiatorReceiveOut : List ℕ
   initiatorReceiveOut =
       unlessRefused initiatorReceiveAnswer out
-      (initiator.bytesAfter (shapeIn shape) sent received (initiatorIn state) message out)
+      (initiator.bytesAfter (lent (shapeIn shape) sent received) (initiatorIn state) message out)
 
   unfoldable pub initiatorReceiveLengths : List ℕ
   initiatorReceiveLengths =
       unlessRefused initiatorReceiveAnswer lengths
-      (numberWords (initiator.lengthsAfter (shapeIn shape) sent received (initiatorIn state) message out))
+      (numberWords (initiator.lengthsAfter (lent (shapeIn shape) sent received) (initiatorIn state) message out))

@@ -2,12 +2,13 @@
 use mathlib.Core.Bool.{_&&_}
 use mathlib.Core.List.{List}
 use Prim.Native.Nat.{ℕ}
+use Rattle.book.specs.Lent.{lent}
 use Rattle.book.specs.InTurn.{_then_, ask, unlessRefused}
 use Rattle.session.specs.Calls.{startQuestion, sessionStarted, strandsStarted, turnQuestion, sessionAfter, strandsAfter}
 use Rattle.searches.specs.Search.{searchQuestion, setSearched, newerSearched, roundsSearched, messagesSearched}
-use Rattle.words.specs.Words.{shapeLength, setLength, sessionLength, wrongLength, isLong}
+use Rattle.words.specs.Words.{shapeLength, setLength, wrongLength, isLong}
 use Rattle.words.specs.Plain.{shapeIn, setWords}
-use Rattle.words.specs.Session.{sessionWords, sessionIn}
+use Rattle.words.specs.Session.{sessionLength, sessionWords, sessionIn}
 use Rattle.recovery_line.specs.Machines.{asProcess}
 
 -- ---- start
@@ -16,17 +17,17 @@ module _ (shape sent received : List ℕ) (initiator purpose : ℕ) (session str
   unfoldable pub startAnswer : ℕ
   startAnswer =
       ask wrongLength (isLong shapeLength shape && isLong sessionLength session)
-      then λ _. startQuestion (shapeIn shape) sent received (asProcess initiator) purpose strands
+      then λ _. startQuestion (lent (shapeIn shape) sent received) (asProcess initiator) purpose strands
 
   unfoldable pub startSession : List ℕ
   startSession =
       unlessRefused startAnswer session
-      (sessionWords (sessionStarted (shapeIn shape) sent received (asProcess initiator) purpose strands))
+      (sessionWords (sessionStarted (lent (shapeIn shape) sent received) (asProcess initiator) purpose strands))
 
   unfoldable pub startStrands : List ℕ
   startStrands =
       unlessRefused startAnswer strands
-      (strandsStarted (shapeIn shape) sent received (asProcess initiator) purpose strands)
+      (strandsStarted (lent (shapeIn shape) sent received) (asProcess initiator) purpose strands)
 
 -- ---- turn
 
@@ -34,17 +35,17 @@ module _ (session shape sent received : List ℕ) (p : ℕ) (strands : List ℕ)
   unfoldable pub turnAnswer : ℕ
   turnAnswer =
       ask wrongLength (isLong shapeLength shape && isLong sessionLength session)
-      then λ _. turnQuestion (shapeIn shape) sent received (sessionIn session) (asProcess p) strands
+      then λ _. turnQuestion (lent (shapeIn shape) sent received) (sessionIn session) (asProcess p) strands
 
   unfoldable pub turnSession : List ℕ
   turnSession =
       unlessRefused turnAnswer session
-      (sessionWords (sessionAfter (shapeIn shape) sent received (sessionIn session) (asProcess p) strands))
+      (sessionWords (sessionAfter (lent (shapeIn shape) sent received) (sessionIn session) (asProcess p) strands))
 
   unfoldable pub turnStrands : List ℕ
   turnStrands =
       unlessRefused turnAnswer strands
-      (strandsAfter (shapeIn shape) sent received (sessionIn session) (asProcess p) strands)
+      (strandsAfter (lent (shapeIn shape) sent received) (sessionIn session) (asProcess p) strands)
 
 -- ---- search
 
@@ -52,22 +53,22 @@ module _ (shape sent received : List ℕ) (initiator purpose : ℕ) (set : List 
   unfoldable pub searchAnswer : ℕ
   searchAnswer =
       ask wrongLength (isLong shapeLength shape && isLong setLength set)
-      then λ _. searchQuestion (shapeIn shape) sent received (asProcess initiator) purpose
+      then λ _. searchQuestion (lent (shapeIn shape) sent received) (asProcess initiator) purpose
 
   -- the set on which everybody ended
   unfoldable pub searchSet : List ℕ
   searchSet =
-      unlessRefused searchAnswer set (setWords (setSearched (shapeIn shape) sent received (asProcess initiator) purpose))
+      unlessRefused searchAnswer set (setWords (setSearched (lent (shapeIn shape) sent received) (asProcess initiator) purpose))
 
   -- how many checkpoints are newer than it
   unfoldable pub searchNewer : ℕ → ℕ
   searchNewer before =
-      unlessRefused searchAnswer before (newerSearched (shapeIn shape) sent received (asProcess initiator) purpose)
+      unlessRefused searchAnswer before (newerSearched (lent (shapeIn shape) sent received) (asProcess initiator) purpose)
 
   unfoldable pub searchRounds : ℕ → ℕ
   searchRounds before =
-      unlessRefused searchAnswer before (roundsSearched (shapeIn shape) sent received (asProcess initiator) purpose)
+      unlessRefused searchAnswer before (roundsSearched (lent (shapeIn shape) sent received) (asProcess initiator) purpose)
 
   unfoldable pub searchMessages : ℕ → ℕ
   searchMessages before =
-      unlessRefused searchAnswer before (messagesSearched (shapeIn shape) sent received (asProcess initiator) purpose)
+      unlessRefused searchAnswer before (messagesSearched (lent (shapeIn shape) sent received) (asProcess initiator) purpose)

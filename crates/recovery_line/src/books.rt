@@ -1,4 +1,5 @@
 // Books: read, check, write.
+use book::Counter;
 use book::WriteAnswer;
 ghost use mathlib.Core.Path.{_≡_};
 ghost use Rattle.recovery_line.specs.Books.{readAnswer, readShape, readSent, readReceived, checkAnswer, writeAnswer, writeOut, writeLength};
@@ -8,8 +9,8 @@ ghost use Rattle.recovery_line.specs.Books.{readAnswer, readShape, readS
 pub extern "C" fn recovery_line_read(
     bytes: &[u8],
     shape: &mut [u64],
-    sent: &mut [u32],
-    received: &mut [u32],
+    sent: &mut [Counter],
+    received: &mut [Counter],
 ) -> u32
     ensures { λ r. ⌜ r ≡ readAnswer (now (bytes .entry)) (now (shape .entry)) (now (sent .entry)) (now (received .entry)) ⌝ }
     ensures { λ _. ⌜ now (shape .exit) ≡ readShape (now (bytes .entry)) (now (shape .entry)) (now (sent .entry)) (now (received .entry)) ⌝ }
@@ -33,7 +34,7 @@ pub extern "C" fn recovery_line_read(
 
 // The questions of lent tables.
 #[no_mangle]
-pub extern "C" fn recovery_line_check(shape: &[u64], sent: &[u32], received: &[u32]) -> u32
+pub extern "C" fn recovery_line_check(shape: &[u64], sent: &[Counter], received: &[Counter]) -> u32
     ensures { λ r. ⌜ r ≡ checkAnswer (now (shape .entry)) (now (sent .entry)) (now (received .entry)) ⌝ }
 {
     let question = crate::shape_question(shape.len());
@@ -48,8 +49,8 @@ pub extern "C" fn recovery_line_check(shape: &[u64], sent: &[u32], received: &[u
 #[no_mangle]
 pub extern "C" fn recovery_line_write(
     shape: &[u64],
-    sent: &[u32],
-    received: &[u32],
+    sent: &[Counter],
+    received: &[Counter],
     out: &mut [u8],
     length: &mut u64,
 ) -> u32

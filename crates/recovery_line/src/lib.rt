@@ -8,6 +8,7 @@ mod machines;
 mod moved;
 mod sessions;
 
+use words::layout;
 ghost use mathlib.Core.Path.{_≡_};
 ghost use mathlib.Core.Bool.{_&&_};
 ghost use lib.Dec.{eqb};
@@ -21,7 +22,7 @@ pub const WRONG_LENGTH: u32 = 100;
 fn shape_question(shape: usize) -> u32
     ensures { λ r. ⌜ r ≡ ask wrongLength (eqb shape shapeLength) ⌝ }
 {
-    if shape != words::SHAPE_WORDS {
+    if shape != layout::SHAPE_WORDS {
         return WRONG_LENGTH;
     }
     0
@@ -31,7 +32,7 @@ fn shape_question(shape: usize) -> u32
 fn two_question(shape: usize, other: usize, its: usize) -> u32
     ensures { λ r. ⌜ r ≡ ask wrongLength (eqb shape shapeLength && eqb other its) ⌝ }
 {
-    if shape != words::SHAPE_WORDS {
+    if shape != layout::SHAPE_WORDS {
         return WRONG_LENGTH;
     }
     if other != its {
@@ -44,7 +45,7 @@ fn two_question(shape: usize, other: usize, its: usize) -> u32
 fn three_question(shape: usize, other: usize, its: usize, third: usize, own: usize) -> u32
     ensures { λ r. ⌜ r ≡ ask wrongLength (eqb shape shapeLength && (eqb other its && eqb third own)) ⌝ }
 {
-    if shape != words::SHAPE_WORDS {
+    if shape != layout::SHAPE_WORDS {
         return WRONG_LENGTH;
     }
     if other != its {

@@ -1,13 +1,16 @@
 // Sets and the line: test a set, find the line.
+use book::Counter;
 use consistency::SetAnswer;
+use words::layout;
 ghost use mathlib.Core.Path.{_≡_};
 ghost use mathlib.Core.List.{[], _∷_};
 ghost use lib.ListN.{length};
+ghost use Rattle.words.specs.Words.{pairLength};
 ghost use Rattle.recovery_line.specs.Lines.{testAnswer, PairShown, findAnswer, findLine, findPassed};
 
 // A pair of processes, to a slice of its length.
 fn put_pair(j: usize, p: usize, pair: &mut [u64])
-    requires { ⌜ length (now pair) ≡ 2 ⌝ }
+    requires { ⌜ length (now pair) ≡ pairLength ⌝ }
     ensures { λ _. ⌜ now (pair .exit) ≡ (j ∷ (p ∷ [])) ⌝ }
 {
     pair[0] = words::of_number(j);
@@ -18,8 +21,8 @@ fn put_pair(j: usize, p: usize, pair: &mut [u64])
 #[no_mangle]
 pub extern "C" fn recovery_line_test_set(
     shape: &[u64],
-    sent: &[u32],
-    received: &[u32],
+    sent: &[Counter],
+    received: &[Counter],
     set: &[u64],
     pair: &mut [u64],
 ) -> u32
@@ -29,9 +32,9 @@ pub extern "C" fn recovery_line_test_set(
     let question = crate::three_question(
         shape.len(),
         set.len(),
-        words::SET_WORDS,
+        layout::SET_WORDS,
         pair.len(),
-        words::PAIR_WORDS,
+        layout::PAIR_WORDS,
     );
     if question != 0 {
         return question;
@@ -56,8 +59,8 @@ pub extern "C" fn recovery_line_test_set(
 #[no_mangle]
 pub extern "C" fn recovery_line_find(
     shape: &[u64],
-    sent: &[u32],
-    received: &[u32],
+    sent: &[Counter],
+    received: &[Counter],
     line: &mut [u64],
     passed: &mut u64,
 ) -> u32
@@ -65,7 +68,7 @@ pub extern "C" fn recovery_line_find(
     ensures { λ _. ⌜ now (line .exit) ≡ findLine (now (shape .entry)) (now (sent .entry)) (now (received .entry)) (now (line .entry)) ⌝ }
     ensures { λ _. ⌜ now (passed .exit) ≡ findPassed (now (shape .entry)) (now (sent .entry)) (now (received .entry)) (now (line .entry)) (now (passed .entry)) ⌝ }
 {
-    let question = crate::two_question(shape.len(), line.len(), words::SET_WORDS);
+    let question = crate::two_question(shape.len(), line.len(), layout::SET_WORDS);
     if question != 0 {
         return question;
     }

@@ -1,7 +1,9 @@
 // The two machines: a participant's first state and receipt, an initiator's beginning and receipt.
+use book::Counter;
 use book::Process;
 use initiator::Initiator;
 use participant::Participant;
+use words::layout;
 ghost use mathlib.Core.Path.{_≡_};
 ghost use Rattle.recovery_line.specs.Machines.{participantFirstAnswer, participantFirstState, participantReceiveAnswer, participantReceiveState, participantReceiveOut, participantReceiveLengths, initiatorBeginAnswer, initiatorBeginState, initiatorBeginOut, initiatorBeginLengths, initiatorReceiveAnswer, initiatorReceiveState, initiatorReceiveOut, initiatorReceiveLengths};
 
@@ -9,8 +11,8 @@ ghost use Rattle.recovery_line.specs.Machines.{participantFirstAnswer, p
 #[no_mangle]
 pub extern "C" fn recovery_line_participant_first(
     shape: &[u64],
-    sent: &[u32],
-    received: &[u32],
+    sent: &[Counter],
+    received: &[Counter],
     me: u64,
     initiator: u64,
     purpose: u64,
@@ -19,7 +21,7 @@ pub extern "C" fn recovery_line_participant_first(
     ensures { λ r. ⌜ r ≡ participantFirstAnswer (now (shape .entry)) (now (sent .entry)) (now (received .entry)) me initiator purpose (now (state .entry)) ⌝ }
     ensures { λ _. ⌜ now (state .exit) ≡ participantFirstState (now (shape .entry)) (now (sent .entry)) (now (received .entry)) me initiator purpose (now (state .entry)) ⌝ }
 {
-    let question = crate::two_question(shape.len(), state.len(), words::PARTICIPANT_WORDS);
+    let question = crate::two_question(shape.len(), state.len(), layout::PARTICIPANT_WORDS);
     if question != 0 {
         return question;
     }
@@ -42,8 +44,8 @@ pub extern "C" fn recovery_line_participant_first(
 pub extern "C" fn recovery_line_participant_receive(
     state: &mut [u64],
     shape: &[u64],
-    sent: &[u32],
-    received: &[u32],
+    sent: &[Counter],
+    received: &[Counter],
     message: &[u8],
     out: &mut [u8],
     lengths: &mut [u64],
@@ -56,9 +58,9 @@ pub extern "C" fn recovery_line_participant_receive(
     let question = crate::three_question(
         shape.len(),
         state.len(),
-        words::PARTICIPANT_WORDS,
+        layout::PARTICIPANT_WORDS,
         lengths.len(),
-        words::LENGTHS_WORDS,
+        layout::LENGTHS_WORDS,
     );
     if question != 0 {
         return question;
@@ -82,8 +84,8 @@ pub extern "C" fn recovery_line_participant_receive(
 #[no_mangle]
 pub extern "C" fn recovery_line_initiator_begin(
     shape: &[u64],
-    sent: &[u32],
-    received: &[u32],
+    sent: &[Counter],
+    received: &[Counter],
     me: u64,
     purpose: u64,
     state: &mut [u64],
@@ -98,9 +100,9 @@ pub extern "C" fn recovery_line_initiator_begin(
     let question = crate::three_question(
         shape.len(),
         state.len(),
-        words::INITIATOR_WORDS,
+        layout::INITIATOR_WORDS,
         lengths.len(),
-        words::LENGTHS_WORDS,
+        layout::LENGTHS_WORDS,
     );
     if question != 0 {
         return question;
@@ -125,8 +127,8 @@ pub extern "C" fn recovery_line_initiator_begin(
 pub extern "C" fn recovery_line_initiator_receive(
     state: &mut [u64],
     shape: &[u64],
-    sent: &[u32],
-    received: &[u32],
+    sent: &[Counter],
+    received: &[Counter],
     message: &[u8],
     out: &mut [u8],
     lengths: &mut [u64],
@@ -139,9 +141,9 @@ pub extern "C" fn recovery_line_initiator_receive(
     let question = crate::three_question(
         shape.len(),
         state.len(),
-        words::INITIATOR_WORDS,
+        layout::INITIATOR_WORDS,
         lengths.len(),
-        words::LENGTHS_WORDS,
+        layout::LENGTHS_WORDS,
     );
     if question != 0 {
         return question;

@@ -1,4 +1,6 @@
 // Moves: move the line, and the restart order alone.
+use book::Counter;
+use words::layout;
 ghost use mathlib.Core.Path.{_≡_};
 ghost use Rattle.recovery_line.specs.Moves.{moveAnswer, moveShape, moveSent, moveReceived, moveOrder};
 
@@ -6,8 +8,8 @@ ghost use Rattle.recovery_line.specs.Moves.{moveAnswer, moveShape, moveS
 #[no_mangle]
 pub extern "C" fn recovery_line_move(
     shape: &mut [u64],
-    sent: &mut [u32],
-    received: &mut [u32],
+    sent: &mut [Counter],
+    received: &mut [Counter],
     purpose: u64,
     order: &mut [u64],
 ) -> u32
@@ -17,7 +19,7 @@ pub extern "C" fn recovery_line_move(
     ensures { λ _. ⌜ now (received .exit) ≡ moveReceived (now (shape .entry)) (now (sent .entry)) (now (received .entry)) purpose (now (order .entry)) ⌝ }
     ensures { λ _. ⌜ now (order .exit) ≡ moveOrder (now (shape .entry)) (now (sent .entry)) (now (received .entry)) purpose (now (order .entry)) ⌝ }
 {
-    let question = crate::two_question(shape.len(), order.len(), words::ORDER_WORDS);
+    let question = crate::two_question(shape.len(), order.len(), layout::ORDER_WORDS);
     if question != 0 {
         return question;
     }
@@ -39,15 +41,15 @@ pub extern "C" fn recovery_line_move(
 #[no_mangle]
 pub extern "C" fn recovery_line_restart_order(
     shape: &[u64],
-    sent: &[u32],
-    received: &[u32],
+    sent: &[Counter],
+    received: &[Counter],
     purpose: u64,
     order: &mut [u64],
 ) -> u32
     ensures { λ r. ⌜ r ≡ moveAnswer (now (shape .entry)) (now (sent .entry)) (now (received .entry)) purpose (now (order .entry)) ⌝ }
     ensures { λ _. ⌜ now (order .exit) ≡ moveOrder (now (shape .entry)) (now (sent .entry)) (now (received .entry)) purpose (now (order .entry)) ⌝ }
 {
-    let question = crate::two_question(shape.len(), order.len(), words::ORDER_WORDS);
+    let question = crate::two_question(shape.len(), order.len(), layout::ORDER_WORDS);
     if question != 0 {
         return question;
     }

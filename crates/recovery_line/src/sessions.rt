@@ -1,5 +1,7 @@
 // Sessions: start, turn, search.
+use book::Counter;
 use book::Process;
+use words::layout;
 ghost use mathlib.Core.Path.{_≡_};
 ghost use Rattle.recovery_line.specs.Sessions.{startAnswer, startSession, startStrands, turnAnswer, turnSession, turnStrands, searchAnswer, searchSet, searchNewer, searchRounds, searchMessages};
 
@@ -7,8 +9,8 @@ ghost use Rattle.recovery_line.specs.Sessions.{startAnswer, startSession
 #[no_mangle]
 pub extern "C" fn recovery_line_session_start(
     shape: &[u64],
-    sent: &[u32],
-    received: &[u32],
+    sent: &[Counter],
+    received: &[Counter],
     initiator: u64,
     purpose: u64,
     session: &mut [u64],
@@ -18,7 +20,7 @@ pub extern "C" fn recovery_line_session_start(
     ensures { λ _. ⌜ now (session .exit) ≡ startSession (now (shape .entry)) (now (sent .entry)) (now (received .entry)) initiator purpose (now (session .entry)) (now (strands .entry)) ⌝ }
     ensures { λ _. ⌜ now (strands .exit) ≡ startStrands (now (shape .entry)) (now (sent .entry)) (now (received .entry)) initiator purpose (now (session .entry)) (now (strands .entry)) ⌝ }
 {
-    let question = crate::two_question(shape.len(), session.len(), words::SESSION_WORDS);
+    let question = crate::two_question(shape.len(), session.len(), layout::SESSION_WORDS);
     if question != 0 {
         return question;
     }
@@ -40,8 +42,8 @@ pub extern "C" fn recovery_line_session_start(
 pub extern "C" fn recovery_line_session_turn(
     session: &mut [u64],
     shape: &[u64],
-    sent: &[u32],
-    received: &[u32],
+    sent: &[Counter],
+    received: &[Counter],
     p: u64,
     strands: &mut [u8],
 ) -> u32
@@ -49,7 +51,7 @@ pub extern "C" fn recovery_line_session_turn(
     ensures { λ _. ⌜ now (session .exit) ≡ turnSession (now (session .entry)) (now (shape .entry)) (now (sent .entry)) (now (received .entry)) p (now (strands .entry)) ⌝ }
     ensures { λ _. ⌜ now (strands .exit) ≡ turnStrands (now (session .entry)) (now (shape .entry)) (now (sent .entry)) (now (received .entry)) p (now (strands .entry)) ⌝ }
 {
-    let question = crate::two_question(shape.len(), session.len(), words::SESSION_WORDS);
+    let question = crate::two_question(shape.len(), session.len(), layout::SESSION_WORDS);
     if question != 0 {
         return question;
     }
@@ -71,8 +73,8 @@ pub extern "C" fn recovery_line_session_turn(
 #[no_mangle]
 pub extern "C" fn recovery_line_search(
     shape: &[u64],
-    sent: &[u32],
-    received: &[u32],
+    sent: &[Counter],
+    received: &[Counter],
     initiator: u64,
     purpose: u64,
     set: &mut [u64],
@@ -86,7 +88,7 @@ pub extern "C" fn recovery_line_search(
     ensures { λ _. ⌜ now (rounds .exit) ≡ searchRounds (now (shape .entry)) (now (sent .entry)) (now (received .entry)) initiator purpose (now (set .entry)) (now (rounds .entry)) ⌝ }
     ensures { λ _. ⌜ now (messages .exit) ≡ searchMessages (now (shape .entry)) (now (sent .entry)) (now (received .entry)) initiator purpose (now (set .entry)) (now (messages .entry)) ⌝ }
 {
-    let question = crate::two_question(shape.len(), set.len(), words::SET_WORDS);
+    let question = crate::two_question(shape.len(), set.len(), layout::SET_WORDS);
     if question != 0 {
         return question;
     }
@@ -101,7 +103,7 @@ pub extern "C" fn recovery_line_search(
     let ended = found.set;
     words::put_set(ended, set, 0);
     *newer = words::of_number(found.newer);
-    *rounds = book::wide(found.rounds);
-    *messages = book::wide(found.messages);
+    *rounds = words::of_tally(found.rounds);
+    *messages = words::of_tally(found.messages);
     0
 }

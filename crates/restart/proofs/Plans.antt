@@ -8,7 +8,7 @@ use Rattle.line_theory.specs.Sets.{View, IsBook, IsSet, IsLine}
 use Rattle.line_theory.specs.Search.{line}
 use Rattle.line_theory.proofs.Theorems.{line-is-line}
 use Rattle.lists.specs.Pick.{pick}
-use Rattle.restart.proofs.Values.{pick-either}
+use Rattle.lists.proofs.Pick.{pick-each}
 use Rattle.restart.specs.Plan.{Planned, advances, restarts, lineCheckpoint, planned}
 
 pub record IsPlan (v : View) (plan : Planned) : Type 0 where
@@ -32,8 +32,8 @@ pub line-is-set : (v : View) (purpose : ℕ) → IsBook mark v → IsSet v (line
 line-is-set v purpose book =
     let found : IsLine v (line v) = line-is-line mark v book in
     record {
-      some = λ j h. pick-either (λ r. 1 ≤ r) (advances purpose) (line v j) 1 (found .is-set .some j h) (omega arith);
-      among = λ j h. pick-either (λ r. r ≤ v .count j) (advances purpose) (line v j) 1 (found .is-set .among j h) (book .some j h);
+      some = λ j h. pick-each (λ r. 1 ≤ r) (advances purpose) (line v j) 1 (found .is-set .some j h) (omega arith);
+      among = λ j h. pick-each (λ r. r ≤ v .count j) (advances purpose) (line v j) 1 (found .is-set .among j h) (book .some j h);
     }
 
 pub planned-is-plan : (v : View) (purpose : ℕ) → IsBook mark v → IsPlan v (planned v purpose)
@@ -43,7 +43,7 @@ planned-is-plan v purpose book = record {
   before = λ j h. omega (arith, there .some j h);
   some = λ j h.
       let line-on : 1 ≤ v .count j - (lineCheckpoint v purpose j - 1) = omega (arith, there .some j h, there .among j h) in
-      pick-either (λ k. 1 ≤ k) (restarts purpose) 1 (v .count j - (lineCheckpoint v purpose j - 1)) (omega arith) line-on;
+      pick-each (λ k. 1 ≤ k) (restarts purpose) 1 (v .count j - (lineCheckpoint v purpose j - 1)) (omega arith) line-on;
   adds-up = λ j h. picks-add-up (restarts purpose) (lineCheckpoint v purpose j) (v .count j) (there .some j h) (there .among j h);
   sent = λ j p. refl;
   received = λ j p. refl;

@@ -1,6 +1,5 @@
 -- What stands in the lists of a plan and of a restart order.
 use mathlib.Core.Path.{_≡_, refl, sym, ap, fun-ext, _∙_}
-use mathlib.Core.Bool.{Bool, true, false}
 use mathlib.Core.List.{List, _++_}
 use Prim.Native.Nat.{ℕ, _+_, _-_, _≤_, _<_}
 use native.Mathlib.Decide.{decLt}
@@ -13,17 +12,12 @@ use Rattle.book.specs.Tables.{padded}
 use Rattle.lists.specs.Over.{tab}
 use Rattle.lists.proofs.Over.{length-tab, getD-tab, tab-is}
 use Rattle.consistency.specs.Set.{chosen}
-use Rattle.lists.specs.Pick.{pick}
+use Rattle.lists.proofs.Pick.{pick-each}
 use Rattle.matrix.specs.Matrix.{asMatrix, entry}
 use Rattle.matrix.proofs.Rows.{entry-of-matrix}
 use Rattle.finder.specs.Line.{checkpoints}
 use Rattle.finder.proofs.Sixteen.{chosen-there}
 use Rattle.restart.specs.Values.{present, numbers, takenOff}
-
--- what holds of either holds of the one picked
-pub pick-either : (P : ℕ → Type 0) (t : Bool) (a b : ℕ) → P a → P b → P (pick t a b)
-pick-either P true a b h k = h
-pick-either P false a b h k = k
 
 -- ---- of processes that there are
 
@@ -67,7 +61,7 @@ module _ (n : ℕ) (f : ℕ → ℕ) where
   pub number-none : (j : ℕ) → f j ≡ 0 → getD (numbers n f) j 0 ≡ 0
   unfolding numbers
   number-none j none = elim (decLt j 16) [
-    | yes h ↦ getD-tab 16 (present n f) j 0 h ∙ pick-either (λ k. k ≡ 0) (ltb j n) (f j) 0 none refl
+    | yes h ↦ getD-tab 16 (present n f) j 0 h ∙ pick-each (λ k. k ≡ 0) (ltb j n) (f j) 0 none refl
     | no h ↦ List·getD-eq-default (tab 16 (present n f)) 0 {n = j} (omega (arith, length-tab 16 (present n f)))
   ]
 

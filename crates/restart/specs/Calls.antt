@@ -2,6 +2,7 @@
 use mathlib.Core.List.{List}
 use Prim.Native.Nat.{ℕ}
 use lib.ListN.{replicate}
+use Rattle.book.specs.Lent.{Tables}
 use Rattle.book.specs.declared.Shape.{Shape}
 use Rattle.book.specs.Bounds.{mostProcesses}
 use Rattle.book.specs.Layout.{Book}
@@ -20,24 +21,24 @@ use Rattle.restart.specs.Values.{orderOf}
 abbrev pub noOrder : Order
 noOrder = record { from = noLine; before = replicate mostProcesses 0; after = replicate mostProcesses 0 }
 
-module _ (shape : Shape) (sent received : List ℕ) (purpose : ℕ) where
+module _ (tables : Tables) (purpose : ℕ) where
   unfoldable pub moveQuestion : ℕ
-  moveQuestion = tablesQuestion shape sent received then λ _. ask 11 (isPurpose purpose)
+  moveQuestion = tablesQuestion tables then λ _. ask 11 (isPurpose purpose)
 
   -- the restart order, with the move or without it
   unfoldable pub orderGiven : Order
-  orderGiven = unlessRefused moveQuestion noOrder (orderOf (shape .n) (planned (viewOf shape sent received) purpose))
+  orderGiven = unlessRefused moveQuestion noOrder (orderOf (tables .shape .n) (planned (viewOf tables) purpose))
 
   -- the moved book
   unfoldable pub bookMoved : Book
-  bookMoved = bookShown (moved (viewOf shape sent received) purpose)
+  bookMoved = bookShown (moved (viewOf tables) purpose)
 
   -- its shape, and what a move leaves in the two tables: every entry, also those that are unused afterwards
   unfoldable pub shapeMoved : Shape
-  shapeMoved = unlessRefused moveQuestion shape (shapeOf bookMoved)
+  shapeMoved = unlessRefused moveQuestion (tables .shape) (shapeOf bookMoved)
 
   unfoldable pub sentMoved : List ℕ
-  sentMoved = unlessRefused moveQuestion sent (sentTable bookMoved)
+  sentMoved = unlessRefused moveQuestion (tables .sent) (sentTable bookMoved)
 
   unfoldable pub receivedMoved : List ℕ
-  receivedMoved = unlessRefused moveQuestion received (receivedTable bookMoved)
+  receivedMoved = unlessRefused moveQuestion (tables .received) (receivedTable bookMoved)

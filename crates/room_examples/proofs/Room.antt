@@ -20,7 +20,7 @@ use Rattle.session.specs.Workers.{waitsOn}
 use Rattle.session.specs.declared.Session.{Session}
 use Rattle.session.specs.Calls.{startQuestion, noSession, sessionStarted}
 use Rattle.session.specs.Turns.{afterTurns}
-use Rattle.demand3.specs.Statement.{Beginning, shapeLeft, sentLeft, receivedLeft, after, nextQuestion}
+use Rattle.demand3.specs.Statement.{Beginning, shapeLeft, after, nextQuestion, tablesLeft}
 use Rattle.room_examples.specs.Room.{IsRefusedByRoom, shortStrands, FewerCanFail}
 use Rattle.session_examples.proofs.Computing.{computing}
 
@@ -68,7 +68,7 @@ module _ (n : ℕ) (low : 2 ≤ n) (high : n ≤ 16) where
   b = shortStrands n
 
   abbrev starts : ℕ
-  starts = startQuestion (shapeLeft b) (sentLeft b) (receivedLeft b) (b .initiator) (b .purpose) (b .strands)
+  starts = startQuestion (tablesLeft b) (b .initiator) (b .purpose) (b .strands)
 
   -- a refused read leaves no processes
   is-read : shapeLeft b .n ≡ n → readQuestion (b .bytes) (b .sent) (b .received) ≡ 0

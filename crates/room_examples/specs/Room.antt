@@ -11,7 +11,7 @@ use Rattle.book.specs.Layout.{Book, width, bookNumbers}
 use Rattle.strands.specs.Strands.{roomForAll}
 use Rattle.session.specs.Workers.{waitsOn}
 use Rattle.demand3.specs.Statement.{Beginning, IsAccepted, Searches, shapeLeft, after, nextQuestion}
-use Rattle.session_examples.specs.Books.{lent}
+use Rattle.session_examples.specs.Books.{blank}
 
 -- n processes with one checkpoint each, but for the last process: its second checkpoint has sent every other process as many
 -- messages as a counter can hold, so that its first report is as long as a message can be
@@ -30,8 +30,8 @@ abbrev pub shortStrands : ℕ → Beginning
 shortStrands n =
     record {
       bytes = encodeAll (bookNumbers (longReport n));
-      sent = lent;
-      received = lent;
+      sent = blank;
+      received = blank;
       initiator = record { 0 = 1 };
       purpose = 3;
       strands = replicate (roomForAll n - 1) 0;

@@ -1,13 +1,13 @@
 -- How large the numbers of a good book are, how many bytes they take, and that they are found in them again.
 use mathlib.Core.Path.{_≡_}
 use mathlib.Core.List.{List, [], _∷_, _++_}
-use Prim.Native.Nat.{ℕ, zero, suc, _+_, _*_, _≤_, _<_}
+use Prim.Native.Nat.{ℕ, zero, suc, _+_, _-_, _*_, _≤_, _<_}
 use native.Mathlib.Nat.{mul-le-mul}
 use native.Mathlib.Omega.{arith}
 use lib.ListN.{length, getD}
 use Rattle.varint.specs.Sequence.{numbersAt}
 use Rattle.varint.proofs.Sequence.{encodeAll-size, scan-encodeAll}
-use Rattle.book.specs.Bounds.{mark, groups, largest, mostBytes}
+use Rattle.book.specs.Bounds.{mostProcesses, mostCheckpoints, mostBytes, groups, largest, mark}
 use Rattle.book.specs.Tables.{countsOf}
 use Rattle.book.specs.View.{sum}
 use Rattle.book.specs.Write.{bookBytes}
@@ -16,7 +16,7 @@ use Rattle.round_trips.proofs.Numbers.{length-numbers}
 use Rattle.round_trips.proofs.Sound.{Sound, SoundOne, sound-head, sound-tail}
 use Rattle.book.proofs.Counts.{count-taken, few-in-all}
 use Rattle.round_trips.proofs.Books.{Good}
-use Rattle.round_trips.proofs.Counters.{process-each}
+use Rattle.round_trips.proofs.Counters.{by-half, process-each}
 
 -- every number is below m
 abbrev pub Below : ℕ → List ℕ → Type 0
@@ -41,9 +41,12 @@ below-process : (m n before : ℕ) (cs : List (List ℕ)) → SoundOne m n befor
 below-process m n before cs one = below-joined m cs row
   where
     row : (r : ℕ) → r < length cs → Below m (getD cs r [])
-    row r h i b = process-each m n cs (one .wide) (one .asked) r i h (rw (one .wide r h) at b) .known
+    row r h i b =
+        let all = process-each m n cs (one .wide) (one .asked) r h in
+        by-half (λ k. getD (getD cs r []) k 0 < m) (n - 1) (λ k l. all .sent k l .known) (λ k l. all .received k l .known)
+        i (rw (one .wide r h) at b)
 
-below-processes : (m n before : ℕ) (ps : List (List (List ℕ))) → 256 < m → Sound m n before ps → Below m (numbersOfProcesses ps)
+below-processes : (m n before : ℕ) (ps : List (List (List ℕ))) → mostCheckpoints < m → Sound m n before ps → Below m (numbersOfProcesses ps)
 unfolding numbersOfProcesses
 below-processes m n before [] h s = λ i b. absurd (omega arith)
 below-processes m n before (cs ∷ ps) h s =
@@ -56,21 +59,24 @@ below-processes m n before (cs ∷ ps) h s =
 module _ (book : Book) (good : Good mark book) where
   numbers-below : Below mark (bookNumbers book)
   numbers-below =
-      let few : book .n ≤ 16 = good .few in
+      let few : book .n ≤ mostProcesses = good .few in
       below-cons mark (book .n) (numbersOfProcesses (book .processes)) (omega arith)
       (below-processes mark (book .n) 0 (book .processes) (omega arith) (good .sound))
 
   -- ---- how many there are
 
-  -- n, 16 counts, and 30 counters for each of 256 checkpoints
-  numbers-few : length (bookNumbers book) ≤ 7697
+  -- n, the counts, and the counters of each checkpoint
+  abbrev mostNumbers : ℕ
+  mostNumbers = suc (mostProcesses + mostCheckpoints * width mostProcesses)
+
+  numbers-few : length (bookNumbers book) ≤ mostNumbers
   numbers-few =
       let n : ℕ = book .n in
       let total : ℕ = sum (countsOf (book .processes)) in
-      let few : n ≤ 16 = good .few in
-      let rows : total ≤ 256 = few-in-all (countsOf (book .processes)) (good .sound .counts) in
-      let narrow : width n ≤ 30 = omega arith in
-      let all : total * width n ≤ 256 * 30 = mul-le-mul rows narrow in
+      let few : n ≤ mostProcesses = good .few in
+      let rows : total ≤ mostCheckpoints = few-in-all (countsOf (book .processes)) (good .sound .counts) in
+      let narrow : width n ≤ width mostProcesses = omega arith in
+      let all : total * width n ≤ mostCheckpoints * width mostProcesses = mul-le-mul rows narrow in
       let l : length (numbersOfProcesses (book .processes)) ≡ length (book .processes) + total * width n
       = length-numbers (width n) (book .processes) (good .sound .wide) in
       omega (arith, good .long)
@@ -79,10 +85,10 @@ module _ (book : Book) (good : Good mark book) where
 
   pub bytes-few : length (bookBytes book) ≤ mostBytes
   bytes-few =
-      let few : length (bookNumbers book) ≤ 7697 = numbers-few in
-      let l : length (bookBytes book) ≤ 5 * length (bookNumbers book)
-      = encodeAll-size 5 (bookNumbers book) (omega arith) (λ i h. omega (arith, numbers-below i h)) in
+      let few : length (bookNumbers book) ≤ mostNumbers = numbers-few in
+      let l : length (bookBytes book) ≤ groups * length (bookNumbers book)
+      = encodeAll-size groups (bookNumbers book) (omega arith) (λ i h. omega (arith, numbers-below i h)) in
       omega arith
 
   pub bytes-found : numbersAt groups largest (bookBytes book) 0 ≡ record { found = bookNumbers book; stop = length (bookBytes book) }
-  bytes-found = scan-encodeAll 5 4294967295 (bookNumbers book) (omega arith) (omega arith) (λ i h. omega (arith, numbers-below i h))
+  bytes-found = scan-encodeAll groups largest (bookNumbers book) (omega arith) (omega arith) (λ i h. omega (arith, numbers-below i h))

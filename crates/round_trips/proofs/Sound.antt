@@ -71,7 +71,7 @@ module _ (mark n sum : ℕ) (cs : List (List ℕ)) (ps : List (List (List ℕ)))
 process-front : (mark n c : ℕ) (vs rest : List ℕ) → c * width n ≤ length vs
     → processQuestion mark n c (vs ++ rest) ≡ processQuestion mark n c vs
 process-front mark n c vs rest h =
-    checkpoints-front mark true (replicate (width n) 0) c vs rest (rw length-replicate h)
+    checkpoints-front mark n true (replicate (width n) 0) c vs rest (length-replicate {A = ℕ} (width n) 0) h
 
 -- what numbers that pass are: the numbers of the processes that they make, with nothing after them
 pub record Whole (mark n left sum : ℕ) (ended : Bool) (vs : List ℕ) : Type 0 where

@@ -6,11 +6,12 @@ use Prim.Native.Nat.{ℕ, _-_, _*_, _≤_}
 use native.Mathlib.Omega.{arith}
 use lib.ListN.{length, take, drop, replicate}
 use lib.Seq.{length-take-le, take-at, drop-at}
+use Rattle.book.specs.Lent.{Tables, lent}
 use Rattle.book.specs.declared.Shape.{Shape}
 use Rattle.book.specs.Bounds.{mark}
-use Rattle.book.specs.Tables.{padded, rowsFrom, sentTable, receivedTable, countsOf, shapeOf, processesOf, bookOf}
+use Rattle.book.specs.Tables.{padded, rowsFrom, sentTable, receivedTable, countsOf, shapeOf, processesOf, bookOf, tablesOf}
 use Rattle.book.specs.View.{sum}
-use Rattle.book.specs.Check.{countsQuestion, rowsQuestion, tablesQuestion}
+use Rattle.book.specs.Check.{countsQuestion, rowsQuestion, contentsQuestion, tablesQuestion}
 use Rattle.book.specs.Layout.{width, Book}
 use Rattle.book.specs.InTurn.{_then_, ask}
 use Rattle.book.specs.Questions.{sizeQuestion, lengthQuestion, allZero, unusedFrom, unusedZero}
@@ -23,44 +24,44 @@ use Rattle.round_trips.proofs.ToTables.{length-countsOf, length-sent, l
 use Rattle.round_trips.proofs.FromTables.{countsOf-processesOf, wide-processesOf, unused-rest, processes-rows}
 
 -- what the check asks, question by question
-pub record Checked (shape : Shape) (s r : List ℕ) : Type 0 where
-  pub sent : length s ≡ 4096
-  pub received : length r ≡ 4096
-  pub some : 1 ≤ shape .n
-  pub few : shape .n ≤ 16
-  pub counts : countsQuestion 0 (take (shape .n) (shape .counts)) ≡ 0
-  pub asked : rowsQuestion mark (shape .n) (bookOf shape s r .processes) ≡ 0
-  pub counts-zero : allZero (drop (shape .n) (shape .counts)) ≡ true
-  pub sent-zero : allZero (unusedFrom (shape .n) 0 (take (shape .n) (shape .counts)) s) ≡ true
-  pub received-zero : allZero (unusedFrom (shape .n) 0 (take (shape .n) (shape .counts)) r) ≡ true
+pub record Checked (t : Tables) : Type 0 where
+  pub sent : length (t .sent) ≡ 4096
+  pub received : length (t .received) ≡ 4096
+  pub some : 1 ≤ t .shape .n
+  pub few : t .shape .n ≤ 16
+  pub counts : countsQuestion 0 (take (t .shape .n) (t .shape .counts)) ≡ 0
+  pub asked : rowsQuestion mark (t .shape .n) (bookOf t .processes) ≡ 0
+  pub counts-zero : allZero (drop (t .shape .n) (t .shape .counts)) ≡ true
+  pub sent-zero : allZero (unusedFrom (t .shape .n) 0 (take (t .shape .n) (t .shape .counts)) (t .sent)) ≡ true
+  pub received-zero : allZero (unusedFrom (t .shape .n) 0 (take (t .shape .n) (t .shape .counts)) (t .received)) ≡ true
 
-module _ (shape : Shape) (s r : List ℕ) where
+module _ (t : Tables) where
   -- the check from each question on
   abbrev from-unused : Unit {0} → ℕ
-  from-unused _ = ask 9 (unusedZero shape s r)
+  from-unused _ = ask 9 (unusedZero t)
 
   abbrev from-rows : Unit {0} → ℕ
-  from-rows _ = rowsQuestion mark (shape .n) (bookOf shape s r .processes) then from-unused
+  from-rows _ = rowsQuestion mark (t .shape .n) (bookOf t .processes) then from-unused
 
   abbrev from-counts : Unit {0} → ℕ
-  from-counts _ = countsQuestion 0 (take (shape .n) (shape .counts)) then from-rows
+  from-counts _ = countsQuestion 0 (take (t .shape .n) (t .shape .counts)) then from-rows
 
   abbrev from-size : Unit {0} → ℕ
-  from-size _ = sizeQuestion (shape .n) then from-counts
+  from-size _ = sizeQuestion (t .shape .n) then from-counts
 
-  pub tables-taken : tablesQuestion shape s r ≡ 0 → Checked shape s r
-  unfolding tablesQuestion
+  pub tables-taken : tablesQuestion t ≡ 0 → Checked t
+  unfolding tablesQuestion contentsQuestion
   tables-taken h =
-      let a = then-none (lengthQuestion s r) from-size h in
-      let b = then-none (sizeQuestion (shape .n)) from-counts (a .1) in
-      let c = then-none (countsQuestion 0 (take (shape .n) (shape .counts))) from-rows (b .1) in
-      let d = then-none (rowsQuestion mark (shape .n) (bookOf shape s r .processes)) from-unused (c .1) in
-      let l = lengths-taken s r (a .0) in
-      let n = size-taken (shape .n) (b .0) in
-      let z0 : Bool = allZero (drop (shape .n) (shape .counts)) in
-      let z1 : Bool = allZero (unusedFrom (shape .n) 0 (take (shape .n) (shape .counts)) s) in
-      let z2 : Bool = allZero (unusedFrom (shape .n) 0 (take (shape .n) (shape .counts)) r) in
-      let e = and-both z0 (z1 && z2) (asked-yes 8 (unusedZero shape s r) (d .1)) in
+      let a = then-none (lengthQuestion (t .sent) (t .received)) from-size h in
+      let b = then-none (sizeQuestion (t .shape .n)) from-counts (a .1) in
+      let c = then-none (countsQuestion 0 (take (t .shape .n) (t .shape .counts))) from-rows (b .1) in
+      let d = then-none (rowsQuestion mark (t .shape .n) (bookOf t .processes)) from-unused (c .1) in
+      let l = lengths-taken (t .sent) (t .received) (a .0) in
+      let n = size-taken (t .shape .n) (b .0) in
+      let z0 : Bool = allZero (drop (t .shape .n) (t .shape .counts)) in
+      let z1 : Bool = allZero (unusedFrom (t .shape .n) 0 (take (t .shape .n) (t .shape .counts)) (t .sent)) in
+      let z2 : Bool = allZero (unusedFrom (t .shape .n) 0 (take (t .shape .n) (t .shape .counts)) (t .received)) in
+      let e = and-both z0 (z1 && z2) (asked-yes 8 (unusedZero t) (d .1)) in
       let f = and-both z1 z2 (e .1) in
       record {
         sent = l .0;
@@ -74,17 +75,17 @@ module _ (shape : Shape) (s r : List ℕ) where
         received-zero = f .1;
       }
 
-  pub tables-given : Checked shape s r → tablesQuestion shape s r ≡ 0
-  unfolding tablesQuestion
+  pub tables-given : Checked t → tablesQuestion t ≡ 0
+  unfolding tablesQuestion contentsQuestion
   tables-given c =
-      let z0 : Bool = allZero (drop (shape .n) (shape .counts)) in
-      let z1 : Bool = allZero (unusedFrom (shape .n) 0 (take (shape .n) (shape .counts)) s) in
-      let z2 : Bool = allZero (unusedFrom (shape .n) 0 (take (shape .n) (shape .counts)) r) in
-      then-both (lengthQuestion s r) from-size (lengths-given s r (c .sent) (c .received))
-      (then-both (sizeQuestion (shape .n)) from-counts (size-given (shape .n) (c .some) (c .few))
-      (then-both (countsQuestion 0 (take (shape .n) (shape .counts))) from-rows (c .counts)
-      (then-both (rowsQuestion mark (shape .n) (bookOf shape s r .processes)) from-unused (c .asked)
-      (ask-yes 9 (unusedZero shape s r) (both-and z0 (z1 && z2) (c .counts-zero) (both-and z1 z2 (c .sent-zero) (c .received-zero)))))))
+      let z0 : Bool = allZero (drop (t .shape .n) (t .shape .counts)) in
+      let z1 : Bool = allZero (unusedFrom (t .shape .n) 0 (take (t .shape .n) (t .shape .counts)) (t .sent)) in
+      let z2 : Bool = allZero (unusedFrom (t .shape .n) 0 (take (t .shape .n) (t .shape .counts)) (t .received)) in
+      then-both (lengthQuestion (t .sent) (t .received)) from-size (lengths-given (t .sent) (t .received) (c .sent) (c .received))
+      (then-both (sizeQuestion (t .shape .n)) from-counts (size-given (t .shape .n) (c .some) (c .few))
+      (then-both (countsQuestion 0 (take (t .shape .n) (t .shape .counts))) from-rows (c .counts)
+      (then-both (rowsQuestion mark (t .shape .n) (bookOf t .processes)) from-unused (c .asked)
+      (ask-yes 9 (unusedZero t) (both-and z0 (z1 && z2) (c .counts-zero) (both-and z1 z2 (c .sent-zero) (c .received-zero)))))))
 
 -- ---- the tables of a good book
 
@@ -107,7 +108,7 @@ module _ (book : Book) (good : Good mark book) where
       (replicate (4096 - length (rowsFrom (drop (book .n - 1)) 0 (book .processes))) 0)
       (rw (good .long) (omega arith)) (good .sound .wide))
 
-  pub good-of : bookOf (shapeOf book) (sentTable book) (receivedTable book) ≡ book
+  pub good-of : bookOf (tablesOf book) ≡ book
   good-of = ap {B = Book} (λ ps. record { n = book .n; processes = ps }) processes-of
 
   -- each of them is long enough, and zero where nothing is held
@@ -125,12 +126,12 @@ module _ (book : Book) (good : Good mark book) where
       )
 
   -- so they pass the check
-  pub good-tables : tablesQuestion (shapeOf book) (sentTable book) (receivedTable book) ≡ 0
+  pub good-tables : tablesQuestion (tablesOf book) ≡ 0
   good-tables =
       let sent = table-good (take (book .n - 1)) (length-sent (book .n)) in
       let received = table-good (drop (book .n - 1)) (length-received (book .n)) in
       let counts : List ℕ = countsOf (book .processes) in
-      tables-given (shapeOf book) (sentTable book) (receivedTable book)
+      tables-given (tablesOf book)
       (record {
         sent = sent .0;
         received = received .0;
@@ -145,7 +146,7 @@ module _ (book : Book) (good : Good mark book) where
 
 -- ---- the book that tables hold
 
-module _ (shape : Shape) (s r : List ℕ) (sixteen : length (shape .counts) ≡ 16) (c : Checked shape s r) where
+module _ {shape : Shape} {s r : List ℕ} (sixteen : length (shape .counts) ≡ 16) (c : Checked (lent shape s r)) where
   -- the counts of the processes that there are
   abbrev held : List ℕ
   held = take (shape .n) (shape .counts)
@@ -157,7 +158,7 @@ module _ (shape : Shape) (s r : List ℕ) (sixteen : length (shape .counts) ≡ 
   held-rows = let f = few-in-all held (c .counts) in omega arith
 
   -- it is good
-  pub of-good : Good mark (bookOf shape s r)
+  pub of-good : Good mark (bookOf (lent shape s r))
   of-good =
       let counts : countsOf (processesOf (shape .n) 0 held s r) ≡ held = countsOf-processesOf (shape .n) 0 held s r in
       record {
@@ -172,7 +173,7 @@ module _ (shape : Shape) (s r : List ℕ) (sixteen : length (shape .counts) ≡ 
       }
 
   -- and its tables are those
-  pub of-shape : shapeOf (bookOf shape s r) ≡ shape
+  pub of-shape : shapeOf (bookOf (lent shape s r)) ≡ shape
   of-shape =
       ap {B = Shape} (λ counts. record { n = shape .n; counts = counts })
       (rw (countsOf-processesOf (shape .n) 0 held s r) (padded-take (shape .n) 16 (shape .counts) sixteen (c .few) (c .counts-zero)))
@@ -183,9 +184,9 @@ module _ (shape : Shape) (s r : List ℕ) (sixteen : length (shape .counts) ≡ 
       processes-rows (shape .n) 0 held s r (rw length-held (omega arith)) (c .few) (rw (c .sent) held-rows) (rw (c .received) held-rows)
       (c .sent-zero) (c .received-zero)
 
-  pub of-sent : sentTable (bookOf shape s r) ≡ s
+  pub of-sent : sentTable (bookOf (lent shape s r)) ≡ s
   of-sent = rw (rows-held .0) (padded-take (sum held * 16) 4096 s (c .sent) held-rows (unused-rest (shape .n) 0 held s (c .sent-zero)))
 
-  pub of-received : receivedTable (bookOf shape s r) ≡ r
+  pub of-received : receivedTable (bookOf (lent shape s r)) ≡ r
   of-received =
       rw (rows-held .1) (padded-take (sum held * 16) 4096 r (c .received) held-rows (unused-rest (shape .n) 0 held r (c .received-zero)))

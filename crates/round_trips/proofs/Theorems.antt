@@ -3,10 +3,10 @@
 use mathlib.Core.Path.{_≡_, sym, ap, subst, _∙_}
 use mathlib.Core.List.{List}
 use Prim.Native.Nat.{ℕ}
-use Rattle.book.specs.declared.Shape.{Shape}
+use Rattle.book.specs.Lent.{Tables}
 use Rattle.book.specs.Bounds.{mark}
 use Rattle.book.specs.Tables.{shapeOf, sentTable, receivedTable, bookOf}
-use Rattle.book.specs.Read.{readQuestion, shapeRead, sentRead, receivedRead, bookRead}
+use Rattle.book.specs.Read.{readQuestion, tablesRead, bookRead}
 use Rattle.book.specs.Write.{bookBytes, bytesOf, writeQuestion}
 use Rattle.book.specs.Layout.{Book}
 use Rattle.round_trips.specs.Statements.{
@@ -32,33 +32,31 @@ read-passes-check bytes s r h =
 
 pub read-then-written : ReadThenWritten
 read-then-written bytes s r out t h room =
-    let shape : Shape = shapeRead bytes s r in
-    let s′ : List ℕ = sentRead bytes s r in
-    let r′ : List ℕ = receivedRead bytes s r in
-    let same : bytesOf shape s′ r′ ≡ bytes
+    let read : Tables = tablesRead bytes s r in
+    let same : bytesOf read ≡ bytes
     = rw (shape-left bytes s r h, sent-left bytes s r h, received-left bytes s r h)
     (ap bookBytes (good-of (bookRead bytes) (read-good bytes s r h)) ∙ read-bytes bytes s r t h) in
-    let q : writeQuestion shape s′ r′ out ≡ 0 = write-given shape s′ r′ out (read-passes-check bytes s r h) (rw same room) in (
-      rw same at (answer-given shape s′ r′ out q),
-      rw same at (buffer-left shape s′ r′ out q),
+    let q : writeQuestion read out ≡ 0 = write-given read out (read-passes-check bytes s r h) (rw same room) in (
+      rw same at (answer-given read out q),
+      rw same at (buffer-left read out q),
     )
 
 pub never-too-long : NeverTooLong
-never-too-long shape s r sixteen h = bytes-few (bookOf shape s r) (of-good shape s r sixteen (tables-taken shape s r h))
+never-too-long tables a = bytes-few (bookOf tables) (of-good (a .sixteen) (tables-taken tables (a .passed)))
 
 pub written-then-read : WrittenThenRead
-written-then-read shape s r out into into′ long sixteen l l′ e =
-    let c = tables-taken shape s r (write-taken shape s r out (answer-taken shape s r out long e .0) .0) in
-    let book : Book = bookOf shape s r in
-    let good : Good mark book = of-good shape s r sixteen c in
-    let bytes : List ℕ = bytesOf shape s r in
+written-then-read tables out into into′ long sixteen l l′ e =
+    let c = tables-taken tables (write-taken tables out (answer-taken tables out long e .0) .0) in
+    let book : Book = bookOf tables in
+    let good : Good mark book = of-good sixteen c in
+    let bytes : List ℕ = bytesOf tables in
     let q : readQuestion bytes into into′ ≡ 0 = good-accepted book good into into′ l l′ in
     let same : bookRead bytes ≡ book = good-read book good in
-    rw (bytes-left shape s r out long e) (
+    rw (bytes-left tables out long e) (
       q,
-      shape-left bytes into into′ q ∙ ap shapeOf same ∙ of-shape shape s r sixteen c,
-      sent-left bytes into into′ q ∙ ap sentTable same ∙ of-sent shape s r sixteen c,
-      received-left bytes into into′ q ∙ ap receivedTable same ∙ of-received shape s r sixteen c,
+      shape-left bytes into into′ q ∙ ap shapeOf same ∙ of-shape sixteen c,
+      sent-left bytes into into′ q ∙ ap sentTable same ∙ of-sent sixteen c,
+      received-left bytes into into′ q ∙ ap receivedTable same ∙ of-received sixteen c,
     )
 
 pub accepted-exactly : AcceptedExactly
@@ -72,23 +70,23 @@ accepted-exactly bytes s r t = (
 )
 
 pub tables-accepted-exactly : TablesAcceptedExactly
-tables-accepted-exactly shape s r sixteen = (
+tables-accepted-exactly tables sixteen = (
   λ h.
-      let c = tables-taken shape s r h in
-      let book : Book = bookOf shape s r in (
+      let c = tables-taken tables h in
+      let book : Book = bookOf tables in (
         book,
-        good-well book (of-good shape s r sixteen c),
-        sym (of-shape shape s r sixteen c),
-        sym (of-sent shape s r sixteen c),
-        sym (of-received shape s r sixteen c),
+        good-well book (of-good sixteen c),
+        sym (of-shape sixteen c),
+        sym (of-sent sixteen c),
+        sym (of-received sixteen c),
       ),
   λ p. rw (p .2, p .3, p .4) (good-tables (p .0) (well-good (p .0) (p .1))),
 )
 
 pub view-is-book : ViewIsBook
-view-is-book shape s r j i k sixteen h m p o =
-    let c = tables-taken shape s r h in (
-      view-count shape s r sixteen c j m,
-      view-sent shape s r sixteen c j m i k p o,
-      view-received shape s r sixteen c j m i k p o,
+view-is-book tables j i k a m p o =
+    let c = tables-taken tables (a .passed) in (
+      view-count (a .sixteen) c j m,
+      view-sent (a .sixteen) c j m i k p o,
+      view-received (a .sixteen) c j m i k p o,
     )

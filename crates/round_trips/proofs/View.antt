@@ -6,6 +6,7 @@ use native.Mathlib.Nat.{add-zero, zero-add}
 use native.Mathlib.Omega.{arith}
 use lib.ListN.{length, take, drop, getD, length-drop, List·getD-append}
 use lib.Seq.{length-take-le, take-take, getD-take, drop-drop, getD-drop, getD-append-add}
+use Rattle.book.specs.Lent.{lent}
 use Rattle.book.specs.declared.Shape.{Shape}
 use Rattle.book.specs.Tables.{others, partnerColumn, checkpointsOf, processesOf, bookOf}
 use Rattle.book.specs.View.{sum, firstRow, count, S, R}
@@ -67,12 +68,12 @@ module _ (n j k row : ℕ) (s t : List ℕ) (h : j < n) (few : n ≤ 16) (m : k 
 
 -- ---- the view of accepted tables
 
-module _ (shape : Shape) (s t : List ℕ) (sixteen : length (shape .counts) ≡ 16) (c : Checked shape s t) (j : ℕ) (h : j < shape .n) where
+module _ {shape : Shape} {s t : List ℕ} (sixteen : length (shape .counts) ≡ 16) (c : Checked (lent shape s t)) (j : ℕ) (h : j < shape .n) where
   abbrev held : List ℕ
   held = take (shape .n) (shape .counts)
 
   abbrev book : Book
-  book = bookOf shape s t
+  book = bookOf (lent shape s t)
 
   abbrev first : ℕ
   first = firstRow (shape .counts) j

@@ -2,19 +2,19 @@
 use mathlib.Core.Path.{_≡_, refl}
 use mathlib.Core.Bool.{true}
 use mathlib.Core.List.{List, [], _∷_}
-use Prim.Native.Nat.{ℕ, zero, suc, _≤_, _<_}
+use Prim.Native.Nat.{ℕ, zero, suc, _+_, _-_, _≤_, _<_}
 use native.Mathlib.Omega.{arith}
 use borrow.Author.Tests.{eqb-true, eq-eqb}
 use lib.ListN.{length, getD, getD-replicate}
 use Rattle.book.specs.Bounds.{mark}
 use Rattle.book.specs.Tables.{countsOf}
 use Rattle.book.specs.Layout.{width, Book, joined}
-use Rattle.book.specs.Along.{processQuestion}
-use Rattle.round_trips.specs.WellFormed.{process, counter, WellFormed}
+use Rattle.book.specs.Along.{sentZeros, receivedZeros, processQuestion}
+use Rattle.round_trips.specs.WellFormed.{process, checkpoint, counter, WellFormed}
 use Rattle.book.proofs.Counts.{few-in-all, counts-some, counts-given}
 use Rattle.round_trips.proofs.ToTables.{length-countsOf}
 use Rattle.round_trips.proofs.Books.{Good}
-use Rattle.round_trips.proofs.Counters.{Passes, oldestAt, beforeAt, process-each, each-process, rows-each, each-rows}
+use Rattle.round_trips.proofs.Counters.{AllPass, by-half, oldestAt, beforeAt, process-each, each-process, rows-each, each-rows}
 
 getD-countsOf : (ps : List (List (List ℕ))) (j : ℕ) → getD (countsOf ps) j 0 ≡ length (getD ps j [])
 unfolding countsOf
@@ -27,6 +27,7 @@ module _ (book : Book) where
   ps = book .processes
 
   pub good-well : Good mark book → WellFormed book
+  unfolding sentZeros receivedZeros
   good-well g =
       record {
         size = (g .some, g .few);
@@ -34,9 +35,10 @@ module _ (book : Book) where
         some = some;
         few = few-in-all (countsOf ps) (g .sound .counts);
         counters = λ j r h k. g .sound .wide j r (within j h) k;
-        known = λ j r k h m i. passes j r k h m i .known;
-        oldest = λ j k h i. eqb-true (counter book j 0 k) 0 (passes j 0 k h (some j h) i .zero);
-        rising = λ j r k h m i. passes j (suc r) k h m i .rising;
+        known = λ j r k h m i. known j r h m k i;
+        oldest-sent = oldest-sent;
+        oldest-received = oldest-received;
+        rising = λ j r k h m i. rising j r h m k i;
       }
     where
       within : (j : ℕ) → j < book .n → j < length ps
@@ -46,13 +48,31 @@ module _ (book : Book) where
       some j h =
           rw (getD-countsOf ps j) at (counts-some 0 (countsOf ps) (g .sound .counts) j (rw (length-countsOf ps) (within j h)))
 
-      passes : (j r k : ℕ) → j < book .n → r < length (process book j) → k < width (book .n)
-          → Passes mark (oldestAt true r) (getD (beforeAt (width (book .n)) (process book j) r) k 0) (counter book j r k)
-      passes j r k h m i =
+      passes : (j r : ℕ) → j < book .n → r < length (process book j)
+          → AllPass mark (book .n) (oldestAt true r) (beforeAt (width (book .n)) (process book j) r) (checkpoint book j r)
+      passes j r h m =
           process-each mark (book .n) (process book j) (λ q p. g .sound .wide j q (within j h) p)
-          (rows-each mark (book .n) ps (g .sound .asked) j (within j h)) r k m i
+          (rows-each mark (book .n) ps (g .sound .asked) j (within j h)) r m
+
+      known : (j r : ℕ) → j < book .n → r < length (process book j) → (k : ℕ) → k < width (book .n) → counter book j r k < mark
+      known j r h m =
+          let all = passes j r h m in
+          by-half (λ k. counter book j r k < mark) (book .n - 1) (λ k i. all .sent k i .known) (λ k i. all .received k i .known)
+
+      rising : (j r : ℕ) → j < book .n → suc r < length (process book j) → (k : ℕ) → k < width (book .n)
+          → counter book j r k ≤ counter book j (suc r) k
+      rising j r h m =
+          let all = passes j (suc r) h m in
+          by-half (λ k. counter book j r k ≤ counter book j (suc r) k) (book .n - 1) (λ k i. all .sent k i .rising) (λ k i. all .received k i .rising)
+
+      oldest-sent : (j k : ℕ) → j < book .n → k < book .n - 1 → counter book j 0 k ≡ 0
+      oldest-sent j k h i = eqb-true (counter book j 0 k) 0 (passes j 0 h (some j h) .sent k i .zero)
+
+      oldest-received : (j k : ℕ) → j < book .n → k < book .n - 1 → counter book j 0 (book .n - 1 + k) ≡ 0
+      oldest-received j k h i = eqb-true (counter book j 0 (book .n - 1 + k)) 0 (passes j 0 h (some j h) .received k i .zero)
 
   pub well-good : WellFormed book → Good mark book
+  unfolding sentZeros receivedZeros
   well-good w =
       record {
         some = w .size .0;
@@ -71,16 +91,39 @@ module _ (book : Book) where
       some : (j : ℕ) → j < length (countsOf ps) → 1 ≤ getD (countsOf ps) j 0
       some j h = rw (getD-countsOf ps j) (w .some j (within j (rw (length-countsOf ps) at h)))
 
-      passes : (j r k : ℕ) → j < book .n → r < length (process book j) → k < width (book .n)
-          → Passes mark (oldestAt true r) (getD (beforeAt (width (book .n)) (process book j) r) k 0) (counter book j r k)
-      passes j zero k h m i =
+      -- before the oldest there are zeros
+      first : (j k : ℕ) → k < width (book .n) → getD (beforeAt (width (book .n)) (process book j) 0) k 0 ≤ counter book j 0 k
+      first j k i = rw (getD-replicate {A = ℕ} (width (book .n)) k 0 0 i) (omega arith)
+
+      passes : (j r : ℕ) → j < book .n → r < length (process book j)
+          → AllPass mark (book .n) (oldestAt true r) (beforeAt (width (book .n)) (process book j) r) (checkpoint book j r)
+      passes j zero h m =
           record {
-            known = w .known j 0 k h m i;
-            zero = eq-eqb (counter book j 0 k) 0 (w .oldest j k h i);
-            rising = rw (getD-replicate {A = ℕ} (width (book .n)) k 0 0 i) (omega arith);
+            sent = λ k i.
+                record {
+                  known = w .known j 0 k h m (omega arith);
+                  zero = eq-eqb (counter book j 0 k) 0 (w .oldest-sent j k h i);
+                  rising = first j k (omega arith);
+                };
+            received = λ k i.
+                record {
+                  known = w .known j 0 (book .n - 1 + k) h m (omega arith);
+                  zero = eq-eqb (counter book j 0 (book .n - 1 + k)) 0 (w .oldest-received j k h i);
+                  rising = first j (book .n - 1 + k) (omega arith);
+                };
           }
-      passes j (suc r) k h m i = record { known = w .known j (suc r) k h m i; zero = refl; rising = w .rising j r k h m i }
+      passes j (suc r) h m =
+          record {
+            sent = λ k i.
+                record { known = w .known j (suc r) k h m (omega arith); zero = refl; rising = w .rising j r k h m (omega arith) };
+            received = λ k i.
+                record {
+                  known = w .known j (suc r) (book .n - 1 + k) h m (omega arith);
+                  zero = refl;
+                  rising = w .rising j r (book .n - 1 + k) h m (omega arith);
+                };
+          }
 
       one : (j : ℕ) → j < length ps → processQuestion mark (book .n) (length (process book j)) (joined (process book j)) ≡ 0
       one j h =
-          each-process mark (book .n) (process book j) (λ r k. w .counters j r (within j h) k) (λ r k m i. passes j r k (within j h) m i)
+          each-process mark (book .n) (process book j) (λ r k. w .counters j r (within j h) k) (λ r m. passes j r (within j h) m)

@@ -1,7 +1,7 @@
 -- What questions 3 to 9 ask of a book, each as a fact of the book as a whole and not along its bytes.
 use mathlib.Core.Path.{_≡_}
 use mathlib.Core.List.{List, []}
-use Prim.Native.Nat.{ℕ, suc, _≤_, _<_}
+use Prim.Native.Nat.{ℕ, suc, _+_, _-_, _≤_, _<_}
 use lib.ListN.{length, getD}
 use Rattle.book.specs.Bounds.{mostProcesses, mostCheckpoints, mark}
 use Rattle.book.specs.Tables.{countsOf}
@@ -30,7 +30,8 @@ pub record WellFormed (book : Book) : Type 0 where
   pub counters : (j r : ℕ) → j < book .n → r < length (process book j) → length (checkpoint book j r) ≡ width (book .n)
   -- 6: no counter is the mark
   pub known : (j r k : ℕ) → j < book .n → r < length (process book j) → k < width (book .n) → counter book j r k < mark
-  -- 7: an oldest checkpoint holds zeros
-  pub oldest : (j k : ℕ) → j < book .n → k < width (book .n) → counter book j 0 k ≡ 0
+  -- 7: an oldest checkpoint holds zeros, in its sent half and in its received half
+  pub oldest-sent : (j k : ℕ) → j < book .n → k < book .n - 1 → counter book j 0 k ≡ 0
+  pub oldest-received : (j k : ℕ) → j < book .n → k < book .n - 1 → counter book j 0 (book .n - 1 + k) ≡ 0
   -- 8: no counter is lower than the same counter one checkpoint before
   pub rising : (j r k : ℕ) → j < book .n → suc r < length (process book j) → k < width (book .n) → counter book j r k ≤ counter book j (suc r) k

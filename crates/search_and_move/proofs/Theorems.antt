@@ -14,7 +14,7 @@ use Rattle.consistency.specs.Set.{chosen}
 use Rattle.finder.specs.Line.{checkpoints, noLine}
 use Rattle.book.specs.Names.{isPurpose}
 use Rattle.session.specs.Workers.{standsOn, hasEnded}
-use Rattle.demand3.specs.Statement.{Beginning, shapeLeft, sentLeft, receivedLeft, viewLeft, IsAccepted, after}
+use Rattle.demand3.specs.Statement.{Beginning, shapeLeft, viewLeft, IsAccepted, after, tablesLeft}
 use Rattle.demand3.proofs.Start as start
 use Rattle.demand3.proofs.Theorems.{demand-3, restart-ends}
 use Rattle.restart.specs.Plan.{lineCheckpoint, planned}
@@ -35,8 +35,8 @@ module _ (b : Beginning) (a : IsAccepted b) (turns : List Process) (j : ℕ) (sm
   unfolding planned
   on-line =
       let is = start.is-search b a in
-      let passed = move-passes (shapeLeft b) (sentLeft b) (receivedLeft b) (b .purpose) (is .accepted) (is .purposed) in
-      from-at (shapeLeft b) (sentLeft b) (receivedLeft b) (b .purpose) passed j small
+      let passed = move-passes (tablesLeft b) (b .purpose) (is .accepted .passed) (is .purposed) in
+      from-at (tablesLeft b) (b .purpose) passed j small
 
   oldest : b .purpose ≡ 2 → named ≡ 1
   oldest two = on-line ∙ rw two
@@ -74,9 +74,9 @@ end-is-line v purpose is = go (three-purposes purpose is)
 
 pub searched-is-order : SearchedIsOrder
 unfolding setSearched planned
-searched-is-order shape sent received initiator purpose long accepted =
-    let is = searches.is-search shape sent received initiator purpose long accepted in
-    let v : View = viewOf shape sent received in
-    kept-passed (searchQuestion shape sent received initiator purpose) noLine (checkpoints (endOf v purpose)) accepted
+searched-is-order t initiator purpose long accepted =
+    let is = searches.is-search t initiator purpose long accepted in
+    let v : View = viewOf t in
+    kept-passed (searchQuestion t initiator purpose) noLine (checkpoints (endOf v purpose)) accepted
     ∙ ap checkpoints (end-is-line v purpose (is .purposed))
-    ∙ sym (order-from shape sent received purpose (move-passes shape sent received purpose (is .accepted) (is .purposed)))
+    ∙ sym (order-from t purpose (move-passes t purpose (is .accepted .passed) (is .purposed)))

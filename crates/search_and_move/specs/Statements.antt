@@ -4,19 +4,19 @@ use mathlib.Core.Bool.{true}
 use mathlib.Core.List.{List}
 use Prim.Native.Nat.{ℕ, _<_}
 use lib.ListN.{length}
-use Rattle.book.specs.declared.Shape.{Shape}
+use Rattle.book.specs.Lent.{Tables}
 use Rattle.book.specs.declared.Process.{Process}
 use Rattle.book.specs.Bounds.{mostProcesses}
 use Rattle.consistency.specs.Set.{chosen}
 use Rattle.session.specs.Workers.{standsOn, hasEnded}
-use Rattle.demand3.specs.Statement.{Beginning, shapeLeft, sentLeft, receivedLeft, IsAccepted, after}
+use Rattle.demand3.specs.Statement.{Beginning, shapeLeft, IsAccepted, after, tablesLeft}
 use Rattle.restart.specs.declared.Order.{Order}
 use Rattle.restart.specs.Calls.{orderGiven}
 use Rattle.searches.specs.Search.{searchQuestion, setSearched}
 
 -- the restart order of the tables that a search runs on, for its purpose
 abbrev pub orderIn : Beginning → Order
-orderIn b = orderGiven (shapeLeft b) (sentLeft b) (receivedLeft b) (b .purpose)
+orderIn b = orderGiven (tablesLeft b) (b .purpose)
 
 -- After every list of turns, whoever has ended stands on its checkpoint in the order.
 abbrev pub EndedStandOnOrder : Type 0
@@ -34,6 +34,5 @@ RestartedStandOnOldest =
 -- The set on which `search` ends is the order's.
 abbrev pub SearchedIsOrder : Type 0
 SearchedIsOrder =
-    (shape : Shape) (sent received : List ℕ) (initiator : Process) (purpose : ℕ) → length (shape .counts) ≡ mostProcesses
-    → searchQuestion shape sent received initiator purpose ≡ 0
-    → setSearched shape sent received initiator purpose ≡ orderGiven shape sent received purpose .from
+    (tables : Tables) (initiator : Process) (purpose : ℕ) → length (tables .shape .counts) ≡ mostProcesses
+    → searchQuestion tables initiator purpose ≡ 0 → setSearched tables initiator purpose ≡ orderGiven tables purpose .from

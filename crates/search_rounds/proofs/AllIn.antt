@@ -142,7 +142,7 @@ module _ (g : Search) (s : Session) (k : ℕ) (box : ℕ → List ℕ) (machine 
     stays-above =
         by-worker (λ j r. lineIn g j ≤ r)
         (rw (in′ .newest)
-        (stays-above-line (g .shape) (g .sent) (g .received) (lead g) (column (machine .matrix) (lead g)) (is .long) (is .accepted) (lead-in g is)
+        (stays-above-line (g .tables) (lead g) (column (machine .matrix) (lead g)) (is .accepted) (lead-in g is)
         enough))
         (λ q part. rw (stands-part g s (placed .leader) q part) at (above q (part-in g q part)))
 

@@ -1,6 +1,6 @@
 -- Once nobody is awaited any more, all reports are in: what `AllIn` says holds of the initiator that polls or ends.
-use mathlib.Core.Path.{_≡_, refl, sym, ap, subst, _∙_}
-use mathlib.Core.Bool.{Bool, true, false, not, _&&_, true≢false}
+use mathlib.Core.Path.{_≡_, sym, ap, subst, _∙_}
+use mathlib.Core.Bool.{Bool, true, false, not, _&&_, true≢false, and-true}
 use mathlib.Core.List.{List}
 use Prim.Native.Nat.{ℕ, _-_, _≤_, _<_}
 use native.Mathlib.Decide.{ℕ-discrete}
@@ -14,7 +14,7 @@ use Rattle.matrix.specs.Matrix.{entry, row, column}
 use Rattle.matrix.proofs.Theorems.{other-rows}
 use Rattle.message.specs.declared.Message.{Message}
 use Rattle.machine.specs.Own.{Own, sentRow, newestPermitted}
-use Rattle.machine.specs.Named.{countLimit}
+use Rattle.machine.specs.Named.{tallyLimit}
 use Rattle.machine.specs.Flags.{flag, someone}
 use Rattle.machine_laws.proofs.Flags.{none-flagged}
 use Rattle.participant.specs.declared.Stage.the-variants.{Searching}
@@ -64,13 +64,9 @@ module _ (g : Search) (s : Session) (box : ℕ → List ℕ) (phase : ℕ → Ph
 
   not-awaited : (q : ℕ) → q < 16 → (q ≡ k → ⊥) → flag (state .awaited) q ≡ false
   not-awaited q h ne =
-      sym (all (flag (state .awaited) q))
+      sym (and-true (flag (state .awaited) q))
       ∙ (ap (λ (t : Bool). flag (state .awaited) q && not t) (sym (ne-eqb q k ne))
       ∙ (sym (arrived .flags q h) ∙ none-flagged (taken .awaited) none q h))
-    where
-      all : (t : Bool) → (t && true) ≡ t
-      all true = refl
-      all false = refl
 
   must-be-quiet : (q : ℕ) → isPart g q ≡ true → (f : Phase) → InPhase g s q (box q) f → flag (state .awaited) q ≡ false → IsQuiet g s q (box q)
   must-be-quiet q part quiet p off = p
@@ -111,10 +107,10 @@ module _ (g : Search) (s : Session) (box : ℕ → List ℕ) (phase : ℕ → Ph
 
   module _ (machine : Initiator) (step-is : step own state m .state ≡ machine) (same-matrix : machine .matrix ≡ back .matrix)
       (me : machine .me ≡ state .me) (purpose : machine .purpose ≡ state .purpose) (kept : keptMatrix machine ≡ machine .matrix)
-      (searching : (machine .ended && eqb (machine .purpose) 2) ≡ false) (few : machine .rounds < countLimit) where
+      (searching : (machine .ended && eqb (machine .purpose) 2) ≡ false) (few : machine .rounds < tallyLimit) where
     machine-fits : fits own machine ≡ true
     machine-fits =
-        subst (λ (i : Initiator). i .rounds < countLimit → fits own i ≡ true) step-is (step-fits own state m (arrived .accepts)) few
+        subst (λ (i : Initiator). i .rounds < tallyLimit → fits own i ≡ true) step-is (step-fits own state m (arrived .accepts)) few
 
     fit : fitting.Fit own machine
     fit = fitting.fits-in own machine machine-fits

@@ -1,9 +1,9 @@
 -- Reports are still out: the initiator goes on waiting.
 use mathlib.Core.Path.{_≡_, refl, sym, ap, _∙_}
-use mathlib.Core.Bool.{Bool, true, false, not, _&&_, true≢false}
+use mathlib.Core.Bool.{Bool, true, false, not, _&&_, true≢false, and-true, and-false}
 use mathlib.Core.List.{List}
 use mathlib.Core.Logic.{inl}
-use Prim.Native.Nat.{ℕ, _+_, _-_, _<_}
+use Prim.Native.Nat.{ℕ, _+_, _<_}
 use native.Mathlib.Omega.{arith}
 use borrow.Author.Tests.{eq-eqb, ne-eqb}
 use lib.ListN.{set}
@@ -63,15 +63,11 @@ module _ (g : Search) (s : Session) (box : ℕ → List ℕ) (phase : ℕ → Ph
         empty = box-empty outgoing k box (silent-to k (part-within g is k there));
         awaited =
             arrived .flags k (part-within g is k there)
-            ∙ (ap (λ (t : Bool). flag (s .machine .awaited) k && not t) (eq-eqb k k refl) ∙ none (flag (s .machine .awaited) k));
+            ∙ (ap (λ (t : Bool). flag (s .machine .awaited) k && not t) (eq-eqb k k refl) ∙ and-false (flag (s .machine .awaited) k));
         searching = arrived .searching;
         row-held = arrived .row-held;
         column-held = rep .column-held;
       }
-    where
-      none : (t : Bool) → (t && false) ≡ false
-      none true = refl
-      none false = refl
 
   same-for : (q : ℕ) → q < 16 → (q ≡ k → ⊥) → SameFor (s .machine) taken q
   unfolding takeReport
@@ -84,13 +80,9 @@ module _ (g : Search) (s : Session) (box : ℕ → List ℕ) (phase : ℕ → Ph
         copy = refl;
         awaited =
             arrived .flags q h
-            ∙ (ap (λ (t : Bool). flag (s .machine .awaited) q && not t) (ne-eqb q k ne) ∙ all (flag (s .machine .awaited) q));
+            ∙ (ap (λ (t : Bool). flag (s .machine .awaited) q && not t) (ne-eqb q k ne) ∙ and-true (flag (s .machine .awaited) q));
         held = arrived .other-held q h ne;
       }
-    where
-      all : (t : Bool) → (t && true) ≡ t
-      all true = refl
-      all false = refl
 
   in-phase : (q : ℕ) → isPart g q ≡ true → InPhase g after q (boxes q) (phases q)
   in-phase =

@@ -120,9 +120,9 @@ module _ (g : Search) where
 
   -- ---- the other places
 
-  place : (k : ℕ) → k < 16 → participantAt (started g) k ≡ placeAtStart (g .shape) (g .sent) (g .received) (g .initiator) (g .purpose) k
+  place : (k : ℕ) → k < 16 → participantAt (started g) k ≡ placeAtStart (g .tables) (g .initiator) (g .purpose) k
   unfolding withPosted begun
-  place k h = getD-tab 16 (placeAtStart (g .shape) (g .sent) (g .received) (g .initiator) (g .purpose)) k noParticipant h
+  place k h = getD-tab 16 (placeAtStart (g .tables) (g .initiator) (g .purpose)) k noParticipant h
 
   place-absent : (k : ℕ) → k < 16 → isPart g k ≡ false → participantAt (started g) k ≡ noParticipant
   place-absent k h e = place k h ∙ ap (λ (t : Bool). pick t (firstState g k) noParticipant) e
@@ -159,7 +159,7 @@ module _ (g : Search) (is : IsSearch g) where
     machine-me = begin-me (ownIn g (lead g)) (g .initiator) (g .purpose);
     machine-purpose = begin-purpose (ownIn g (lead g)) (g .initiator) (g .purpose);
     machine-fits = begin-fits (ownIn g (lead g)) (g .initiator) (g .purpose) (own-is g is (lead g) (lead-in g is));
-    all-participants = length-tab 16 (placeAtStart (g .shape) (g .sent) (g .received) (g .initiator) (g .purpose));
+    all-participants = length-tab 16 (placeAtStart (g .tables) (g .initiator) (g .purpose));
     all-lengths = lengths-long (begins g .outgoing) noLengths;
     part = part-at;
     absent = λ k h e. (place-absent g k h e, nothing-there g k h e);

@@ -101,7 +101,7 @@ module _ (g : Search) (is : IsSearch g) (s : Session) (box : ℕ → List ℕ) (
   here-above : lineIn g k ≤ standsOn s′ k
   here-above =
       rw (here-now, step-is .on-newest)
-      (stays-above-line (g .shape) (g .sent) (g .received) k (patch (participantAt s k .column) (m .news)) (is .long) (is .accepted)
+      (stays-above-line (g .tables) k (patch (participantAt s k .column) (m .news)) (is .accepted)
       (part-in g k there) enough)
 
   pub above-again : (j : ℕ) → j < size g → lineIn g j ≤ standsOn s′ j

@@ -8,7 +8,7 @@ use native.Mathlib.Omega.{arith}
 use native.Mathlib.Nat.{mul-le-mul-left}
 use borrow.Author.Tests.{eq-eqb}
 use lib.ListN.{length}
-use Rattle.book.specs.declared.Shape.{Shape}
+use Rattle.book.specs.Lent.{Tables}
 use Rattle.book.specs.declared.Process.{Process}
 use Rattle.lists.specs.Pick.{pick}
 use Rattle.strands.specs.Strands.{roomForAll}
@@ -25,19 +25,18 @@ use Rattle.searches.proofs.Lowest.{lowest-found, some-found}
 
 -- ---- one turn more, or none
 
-module _ (shape : Shape) (sent received : List ℕ) (o : Ongoing) where
-  pub to-end-more : (left : ℕ) → messageWaits (o .session) ≡ true
-      → toEnd shape sent received (suc left) o
-      ≡ toEnd shape sent received left (afterTurn shape sent received o (lowestWaiting (o .session)))
+module _ (t : Tables) (o : Ongoing) where
+  pub to-end-more : (left : ℕ) → messageWaits (o .session) ≡ true → toEnd t (suc left) o
+      ≡ toEnd t left (afterTurn t o (lowestWaiting (o .session)))
   unfolding toEnd
   to-end-more left h = rw (toEnd, h)
 
-  pub to-end-done : (left : ℕ) → messageWaits (o .session) ≡ false → toEnd shape sent received left o ≡ o
+  pub to-end-done : (left : ℕ) → messageWaits (o .session) ≡ false → toEnd t left o ≡ o
   unfolding toEnd
   to-end-done zero h = refl
   to-end-done (suc left) h = rw (toEnd, h)
 
-  to-end-none : toEnd shape sent received 0 o ≡ o
+  to-end-none : toEnd t 0 o ≡ o
   unfolding toEnd
   to-end-none = refl
 
@@ -92,7 +91,7 @@ module _ (g : Search) (is : IsSearch g) where
   -- ---- to the end
 
   abbrev pub endFrom : ℕ → Ongoing → Ongoing
-  endFrom left o = toEnd (g .shape) (g .sent) (g .received) left o
+  endFrom left o = toEnd (g .tables) left o
 
   pub record Ended (o : Ongoing) : Type 0 where
     pub runs : Runs g o
@@ -104,12 +103,12 @@ module _ (g : Search) (is : IsSearch g) where
       go : (v : Bool) → messageWaits (o .session) ≡ v → Ended (endFrom 0 o)
       go true waits =
           absurd (omega (arith, next-counts o runs waits, few-delivered g (lowestNext o) (next-runs o runs), enough))
-      go false none = rw (to-end-none (g .shape) (g .sent) (g .received) o) (record { runs = runs; silent = none })
+      go false none = rw (to-end-none (g .tables) o) (record { runs = runs; silent = none })
   comes-to-end (suc left) o runs enough =
       go (messageWaits (o .session)) refl
       (λ waits. comes-to-end left (lowestNext o) (next-runs o runs) (omega (arith, next-counts o runs waits, enough)))
     where
       go : (v : Bool) → messageWaits (o .session) ≡ v
           → (messageWaits (o .session) ≡ true → Ended (endFrom left (lowestNext o))) → Ended (endFrom (suc left) o)
-      go true waits rest = rw (to-end-more (g .shape) (g .sent) (g .received) o left waits) (rest waits)
-      go false none rest = rw (to-end-done (g .shape) (g .sent) (g .received) o (suc left) none) (record { runs = runs; silent = none })
+      go true waits rest = rw (to-end-more (g .tables) o left waits) (rest waits)
+      go false none rest = rw (to-end-done (g .tables) o (suc left) none) (record { runs = runs; silent = none })

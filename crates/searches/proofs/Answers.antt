@@ -3,9 +3,9 @@ use mathlib.Core.Path.{_≡_, sym, ap, subst, _∙_}
 use mathlib.Core.List.{List}
 use Prim.Native.Nat.{ℕ, _-_, _≤_}
 use lib.ListN.{length}
+use Rattle.book.specs.Lent.{Tables}
 use Rattle.book.specs.declared.Answer.the-variants.{Accepted}
 use Rattle.book.specs.declared.Answer.{Answer}
-use Rattle.book.specs.declared.Shape.{Shape}
 use Rattle.book.specs.declared.Process.{Process}
 use Rattle.book.specs.declared.Checkpoint.{Checkpoint}
 use Rattle.book.specs.Bounds.{mostProcesses}
@@ -34,35 +34,35 @@ use Rattle.searches.proofs.Ends.{endIn}
 use Rattle.searches.proofs.Theorems.{search-ends, searchIn, is-search, searched-ended, searched-stands}
 use Rattle.searches.proofs.Sets.{end-is-among, end-passed}
 
-module _ (shape : Shape) (sent received : List ℕ) (initiator : Process) (purpose : ℕ) where
+module _ (tables : Tables) (initiator : Process) (purpose : ℕ) where
   abbrev question : ℕ
-  question = searchQuestion shape sent received initiator purpose
+  question = searchQuestion tables initiator purpose
 
-  abbrev tables : ℕ
-  tables = tablesQuestion shape sent received
+  abbrev of-tables : ℕ
+  of-tables = tablesQuestion tables
 
   abbrev begins : ℕ
-  begins = ask 10 (isNamed (shape .n) (initiator .0)) then λ _. ask 11 (isPurpose purpose)
+  begins = ask 10 (isNamed (tables .shape .n) (initiator .0)) then λ _. ask 11 (isPurpose purpose)
 
   -- the answer, and what stands beside it
   abbrev pub Answers : Answer → List Checkpoint → ℕ → ℕ → ℕ → Type 0
   Answers answer set newer rounds messages =
       (answer ≡ answerTo question)
-      × ((set ≡ setSearched shape sent received initiator purpose)
-      × ((newer ≡ newerSearched shape sent received initiator purpose)
-      × ((rounds ≡ roundsSearched shape sent received initiator purpose)
-      × ((messages ≡ messagesSearched shape sent received initiator purpose)
-      × EndedThere shape sent received initiator purpose))))
+      × ((set ≡ setSearched tables initiator purpose)
+      × ((newer ≡ newerSearched tables initiator purpose)
+      × ((rounds ≡ roundsSearched tables initiator purpose)
+      × ((messages ≡ messagesSearched tables initiator purpose)
+      × EndedThere tables initiator purpose))))
 
   -- ---- the questions
 
-  pub tables-refuse : (found : ℕ) → found ≡ tables → (found ≡ 0 → ⊥) → question ≡ found
+  pub tables-refuse : (found : ℕ) → found ≡ of-tables → (found ≡ 0 → ⊥) → question ≡ found
   unfolding searchQuestion
-  tables-refuse found e some = then-refused tables (λ _. begins) (λ none. some (e ∙ none)) ∙ sym e
+  tables-refuse found e some = then-refused of-tables (λ _. begins) (λ none. some (e ∙ none)) ∙ sym e
 
-  pub tables-pass : (found later : ℕ) → found ≡ tables → found ≡ 0 → later ≡ begins → question ≡ later
+  pub tables-pass : (found later : ℕ) → found ≡ of-tables → found ≡ 0 → later ≡ begins → question ≡ later
   unfolding searchQuestion
-  tables-pass found later e none f = then-passed tables (λ _. begins) (sym e ∙ none) ∙ sym f
+  tables-pass found later e none f = then-passed of-tables (λ _. begins) (sym e ∙ none) ∙ sym f
 
   -- ---- beside a refusal
 
@@ -88,19 +88,19 @@ module _ (shape : Shape) (sent received : List ℕ) (initiator : Process) (purpo
 
   -- ---- where it is accepted
 
-  module _ (long : length (shape .counts) ≡ mostProcesses) (accepted : question ≡ 0) where
+  module _ (long : length (tables .shape .counts) ≡ mostProcesses) (accepted : question ≡ 0) where
     abbrev g : Search
-    g = searchIn shape sent received initiator purpose
+    g = searchIn tables initiator purpose
 
     abbrev o : Ongoing
-    o = searched shape sent received initiator purpose
+    o = searched tables initiator purpose
 
     pub searched-leader : (s : Session) → s ≡ o .session → 1 ≤ s .initiator .0
     searched-leader s same =
-        let is = is-search shape sent received initiator purpose long accepted in
+        let is = is-search tables initiator purpose long accepted in
         let placed : Placed g (o .session) =
         placed-in g is (InSession g) (kept-in g is) o
-        (searched-ended shape sent received initiator purpose long accepted .runs .holds) in
+        (searched-ended tables initiator purpose long accepted .runs .holds) in
         let leader : s .initiator ≡ initiator = ap (λ (t : Session). t .initiator) same ∙ placed .leader in
         subst (λ (p : Process). 1 ≤ p .0) (sym leader) (initiator-some g is)
 
@@ -108,18 +108,18 @@ module _ (shape : Shape) (sent received : List ℕ) (initiator : Process) (purpo
     searched-set : checkpoints (standsOn (o .session)) ≡ checkpoints (endIn g)
     searched-set =
         checkpoints-same (standsOn (o .session)) (endIn g)
-        (searched-stands shape sent received initiator purpose long accepted)
+        (searched-stands tables initiator purpose long accepted)
 
     module _ (s : Session) (set : List Checkpoint) (same : s ≡ o .session) (stands : set ≡ checkpoints (standsOn s)) where
       set-is : set ≡ checkpoints (endIn g)
       set-is = stands ∙ ap (λ (t : Session). checkpoints (standsOn t)) same ∙ searched-set
 
-      pub set-among : Among shape set
+      pub set-among : Among (tables .shape) set
       set-among =
-          subst (λ (l : List Checkpoint). Among shape l) (sym set-is)
-          (end-is-among g (is-search shape sent received initiator purpose long accepted))
+          subst (λ (l : List Checkpoint). Among (tables .shape) l) (sym set-is)
+          (end-is-among g (is-search tables initiator purpose long accepted))
 
-      pub search-accepted : (newer : ℕ) → newer ≡ sumTo (shape .n) (λ j. count shape j - chosen set j)
+      pub search-accepted : (newer : ℕ) → newer ≡ sumTo (tables .shape .n) (λ j. count (tables .shape) j - chosen set j)
           → Answers Accepted set newer (s .machine .rounds) (s .delivered)
       unfolding setSearched newerSearched roundsSearched messagesSearched
       search-accepted newer e = (
@@ -128,14 +128,14 @@ module _ (shape : Shape) (sent received : List ℕ) (initiator : Process) (purpo
           set-is ∙ sym (kept-passed question noLine (checkpoints (endIn g)) accepted),
           (
             e
-                ∙ ap (λ (l : List Checkpoint). sumTo (shape .n) (λ j. count shape j - chosen l j)) set-is
-                ∙ end-passed g (is-search shape sent received initiator purpose long accepted)
+                ∙ ap (λ (l : List Checkpoint). sumTo (tables .shape .n) (λ j. count (tables .shape) j - chosen l j)) set-is
+                ∙ end-passed g (is-search tables initiator purpose long accepted)
                 ∙ sym (kept-passed question 0 (newerThan (viewIn g) (endIn g)) accepted),
             (
               ap (λ (t : Session). t .machine .rounds) same ∙ sym (kept-passed question 0 (o .session .machine .rounds) accepted),
               (
                 ap (λ (t : Session). t .delivered) same ∙ sym (kept-passed question 0 (o .session .delivered) accepted),
-                search-ends shape sent received initiator purpose long,
+                search-ends tables initiator purpose long,
               ),
             ),
           ),

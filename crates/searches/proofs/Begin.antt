@@ -24,7 +24,7 @@ use Rattle.strand_laws.proofs.Theorems.{laid-begun}
 
 -- as the start leaves them
 abbrev pub startOf : Search → List ℕ → Ongoing
-startOf g strands = started (g .shape) (g .sent) (g .received) (g .initiator) (g .purpose) strands
+startOf g strands = started (g .tables) (g .initiator) (g .purpose) strands
 
 -- the strands inside have room for sixteen processes, and so for fewer
 pub room-inside : (n : ℕ) → n ≤ 16 → roomForAll n ≤ length strandsInside
@@ -39,13 +39,13 @@ module _ (g : Search) (is : IsSearch g) where
     session-left : startOf g strands .session ≡ withPosted (begins g)
     unfolding sessionStarted
     session-left =
-        kept-passed (startQuestion (g .shape) (g .sent) (g .received) (g .initiator) (g .purpose) strands) noSession
+        kept-passed (startQuestion (g .tables) (g .initiator) (g .purpose) strands) noSession
         (withPosted (begins g)) (starts-with-room g is strands room)
 
     strands-left : startOf g strands .strands ≡ posted (size g) (lead g) (begins g .outgoing) strands
     unfolding strandsStarted
     strands-left =
-        kept-passed (startQuestion (g .shape) (g .sent) (g .received) (g .initiator) (g .purpose) strands) strands
+        kept-passed (startQuestion (g .tables) (g .initiator) (g .purpose) strands) strands
         (posted (size g) (lead g) (begins g .outgoing) strands) (starts-with-room g is strands room)
 
     laid :

@@ -8,7 +8,8 @@ use lib.ListN.{length}
 use Rattle.book.specs.declared.Shape.{Shape}
 use Rattle.book.specs.declared.Process.{Process}
 use Rattle.book.specs.Bounds.{mostProcesses}
-use Rattle.book.specs.Check.{tablesQuestion}
+use Rattle.book.specs.Lent.{lent, Tables}
+use Rattle.book.specs.Accepted.{AreAccepted}
 use Rattle.line_theory.specs.OfTables.{viewOf}
 use Rattle.session.specs.declared.Session.{Session}
 use Rattle.session.specs.Calls.{startQuestion, sessionStarted, strandsStarted, turnQuestion}
@@ -26,59 +27,57 @@ use Rattle.searches.proofs.Along.{Runs, few-delivered, next-runs, next-
 use Rattle.searches.proofs.Theorems.{searchIn, is-search, begun-runs}
 
 -- what has started there has accepted tables,
-pub tables-accepted : (shape : Shape) (sent received : List ℕ) (s : Session) (strands : List ℕ) → Started shape sent received s strands
-    → tablesQuestion shape sent received ≡ 0
-tables-accepted shape sent received s strands a =
-    is-search shape sent received (a .initiator) (a .purpose) (a .long) (a .accepted) .accepted
+pub tables-accepted : (tables : Tables) (s : Session) (strands : List ℕ) → Started tables s strands → AreAccepted tables
+tables-accepted tables s strands a = is-search tables (a .initiator) (a .purpose) (a .long) (a .accepted) .accepted
 
 -- and has started on the shape among their rows
 pub started-rows : (shape same : Shape) (sent received : List ℕ) (s : Session) (strands : List ℕ) → same ≡ shape
-    → Started shape sent received s strands → Started same sent received s strands
-started-rows shape same sent received s strands e a = subst (λ (t : Shape). Started t sent received s strands) (sym e) a
+    → Started (lent shape sent received) s strands → Started (lent same sent received) s strands
+started-rows shape same sent received s strands e a = subst (λ (t : Shape). Started (lent t sent received) s strands) (sym e) a
 
-module _ (shape : Shape) (sent received : List ℕ) where
+module _ (tables : Tables) where
   -- where all turns lead from here
   abbrev pub endOfAll : Ongoing → Ongoing
-  endOfAll o = toEnd shape sent received (mostDelivered (viewOf shape sent received)) o
+  endOfAll o = toEnd tables (mostDelivered (viewOf tables)) o
 
   -- how many turns are left
   abbrev pub leftAt : Session → ℕ
-  leftAt s = mostDelivered (viewOf shape sent received) - s .delivered
+  leftAt s = mostDelivered (viewOf tables) - s .delivered
 
   -- from o₀ on turns have led to o, and p is the next to be named
   pub record Finishing (o₀ o : Ongoing) (p : Process) : Type 0 where
     pub initiator : Process
     pub purpose : ℕ
-    pub is : IsSearch (searchIn shape sent received initiator purpose)
-    pub runs : Runs (searchIn shape sent received initiator purpose) o
+    pub is : IsSearch (searchIn tables initiator purpose)
+    pub runs : Runs (searchIn tables initiator purpose) o
     pub lowest : p ≡ lowestWaiting (o .session)
-    pub rest : endOfAll o₀ ≡ toEnd shape sent received (leftAt (o .session)) o
+    pub rest : endOfAll o₀ ≡ toEnd tables (leftAt (o .session)) o
 
-  pub finishing-none : (s : Session) (strands : List ℕ) (p : Process) → Started shape sent received s strands → p ≡ lowestWaiting s
+  pub finishing-none : (s : Session) (strands : List ℕ) (p : Process) → Started tables s strands → p ≡ lowestWaiting s
       → Finishing (record { session = s; strands = strands }) (record { session = s; strands = strands }) p
   finishing-none s strands p a e =
-      let g : Search = searchIn shape sent received (a .initiator) (a .purpose) in
-      let is : IsSearch g = is-search shape sent received (a .initiator) (a .purpose) (a .long) (a .accepted) in
+      let g : Search = searchIn tables (a .initiator) (a .purpose) in
+      let is : IsSearch g = is-search tables (a .initiator) (a .purpose) (a .long) (a .accepted) in
       let left : startOf g strandsInside ≡ record { session = s; strands = strands } = rw (a .session-left, a .strands-left) refl in
       let none : s .delivered ≡ 0 =
       ap (λ (x : Session). x .delivered) (a .session-left)
-      ∙ start-delivered g is strandsInside (room-inside (shape .n) (few g is)) in
+      ∙ start-delivered g is strandsInside (room-inside (tables .shape .n) (few g is)) in
       record {
         initiator = a .initiator;
         purpose = a .purpose;
         is = is;
         runs =
             subst (λ (o : Ongoing). Runs g o) left
-            (begun-runs shape sent received (a .initiator) (a .purpose) (a .long) (a .accepted));
+            (begun-runs tables (a .initiator) (a .purpose) (a .long) (a .accepted));
         lowest = e;
         rest =
-            let all : mostDelivered (viewOf shape sent received) ≡ leftAt s = omega (arith, none) in
-            ap (λ (left : ℕ). toEnd shape sent received left (record { session = s; strands = strands })) all;
+            let all : mostDelivered (viewOf tables) ≡ leftAt s = omega (arith, none) in
+            ap (λ (left : ℕ). toEnd tables left (record { session = s; strands = strands })) all;
       }
 
   module _ (o₀ o : Ongoing) (p : Process) (f : Finishing o₀ o p) where
     abbrev g : Search
-    g = searchIn shape sent received (f .initiator) (f .purpose)
+    g = searchIn tables (f .initiator) (f .purpose)
 
     -- a turn more: it is counted, so that fewer are left
     module _ (some : p .0 ≡ 0 → ⊥) where
@@ -88,16 +87,16 @@ module _ (shape : Shape) (sent received : List ℕ) where
           found-some (o .session) (subst (λ (q : Process). 1 ≤ q .0) (f .lowest) first)
 
       -- no question refuses it
-      pub turn-passes : turnQuestion shape sent received (o .session) p (o .strands) ≡ 0
+      pub turn-passes : turnQuestion tables (o .session) p (o .strands) ≡ 0
       turn-passes =
-          subst (λ (q : Process). turnQuestion shape sent received (o .session) q (o .strands) ≡ 0) (sym (f .lowest))
+          subst (λ (q : Process). turnQuestion tables (o .session) q (o .strands) ≡ 0) (sym (f .lowest))
           (next-passes g (f .is) o (f .runs) waits)
 
       abbrev next : Ongoing
-      next = afterTurn shape sent received o p
+      next = afterTurn tables o p
 
-      same-next : afterTurn shape sent received o (lowestWaiting (o .session)) ≡ next
-      same-next = ap (λ (q : Process). afterTurn shape sent received o q) (sym (f .lowest))
+      same-next : afterTurn tables o (lowestWaiting (o .session)) ≡ next
+      same-next = ap (λ (q : Process). afterTurn tables o q) (sym (f .lowest))
 
       counts : next .session .delivered ≡ o .session .delivered + 1
       counts = ap (λ (u : Ongoing). u .session .delivered) (sym same-next) ∙ next-counts g (f .is) o (f .runs) waits
@@ -119,9 +118,9 @@ module _ (shape : Shape) (sent received : List ℕ) where
             lowest = e;
             rest =
                 f .rest
-                ∙ ap (λ (left : ℕ). toEnd shape sent received left o) one
-                ∙ to-end-more shape sent received o (leftAt (next .session)) waits
-                ∙ ap (λ (u : Ongoing). toEnd shape sent received (leftAt (next .session)) u) same-next;
+                ∙ ap (λ (left : ℕ). toEnd tables left o) one
+                ∙ to-end-more tables o (leftAt (next .session)) waits
+                ∙ ap (λ (u : Ongoing). toEnd tables (leftAt (next .session)) u) same-next;
           }
 
       -- as a call of `take_turn` leaves it
@@ -141,38 +140,37 @@ module _ (shape : Shape) (sent received : List ℕ) where
     pub finishing-all : p .0 ≡ 0 → endOfAll o₀ ≡ o
     finishing-all none =
         f .rest
-        ∙ to-end-done shape sent received o (leftAt (o .session))
+        ∙ to-end-done tables o (leftAt (o .session))
         (found-none (o .session) (sym (ap (λ (q : Process). q .0) (f .lowest)) ∙ none))
 
 -- ---- a session started inside
 
 -- no question refuses its start
-pub starts-inside : (shape : Shape) (sent received : List ℕ) (initiator : Process) (purpose : ℕ) (lent : List ℕ) → lent ≡ strandsInside
-    → length (shape .counts) ≡ mostProcesses → searchQuestion shape sent received initiator purpose ≡ 0
-    → startQuestion shape sent received initiator purpose lent ≡ 0
-starts-inside shape sent received initiator purpose lent inside long accepted =
-    let g : Search = searchIn shape sent received initiator purpose in
-    let is : IsSearch g = is-search shape sent received initiator purpose long accepted in
-    subst (λ (l : List ℕ). startQuestion shape sent received initiator purpose l ≡ 0) (sym inside)
-    (starts-with-room g is strandsInside (room-inside (shape .n) (few g is)))
+pub starts-inside : (tables : Tables) (initiator : Process) (purpose : ℕ) (bytes : List ℕ) → bytes ≡ strandsInside
+    → length (tables .shape .counts) ≡ mostProcesses → searchQuestion tables initiator purpose ≡ 0
+    → startQuestion tables initiator purpose bytes ≡ 0
+starts-inside tables initiator purpose bytes inside long accepted =
+    let g : Search = searchIn tables initiator purpose in
+    let is : IsSearch g = is-search tables initiator purpose long accepted in
+    subst (λ (l : List ℕ). startQuestion tables initiator purpose l ≡ 0) (sym inside)
+    (starts-with-room g is strandsInside (room-inside (tables .shape .n) (few g is)))
 
 module _
-    (shape : Shape)
-    (sent received : List ℕ)
+    (tables : Tables)
     (initiator : Process)
     (purpose : ℕ)
-    (lent : List ℕ)
+    (bytes : List ℕ)
     (s : Session)
     (strands : List ℕ)
-    (inside : lent ≡ strandsInside)
-    (session-left : s ≡ sessionStarted shape sent received initiator purpose lent)
-    (strands-left : strands ≡ strandsStarted shape sent received initiator purpose lent)
+    (inside : bytes ≡ strandsInside)
+    (session-left : s ≡ sessionStarted tables initiator purpose bytes)
+    (strands-left : strands ≡ strandsStarted tables initiator purpose bytes)
   where
-    started-is : _≡_ {A = Ongoing} (record { session = s; strands = strands }) (started shape sent received initiator purpose strandsInside)
+    started-is : _≡_ {A = Ongoing} (record { session = s; strands = strands }) (started tables initiator purpose strandsInside)
     started-is = rw (session-left, strands-left, inside)
 
-    pub started-inside : length (shape .counts) ≡ mostProcesses → searchQuestion shape sent received initiator purpose ≡ 0
-        → Started shape sent received s strands
+    pub started-inside : length (tables .shape .counts) ≡ mostProcesses → searchQuestion tables initiator purpose ≡ 0
+        → Started tables s strands
     started-inside long accepted =
         record {
           initiator = initiator;
@@ -183,12 +181,12 @@ module _
           strands-left = ap (λ (o : Ongoing). o .strands) started-is;
         }
 
-    pub finished-inside : (r : Session) → r ≡ endOfAll shape sent received (record { session = s; strands = strands }) .session
-        → r ≡ searched shape sent received initiator purpose .session
+    pub finished-inside : (r : Session) → r ≡ endOfAll tables (record { session = s; strands = strands }) .session
+        → r ≡ searched tables initiator purpose .session
     unfolding searched
-    finished-inside r e = e ∙ ap (λ (o : Ongoing). endOfAll shape sent received o .session) started-is
+    finished-inside r e = e ∙ ap (λ (o : Ongoing). endOfAll tables o .session) started-is
 
     pub taken-inside : (turns : List Process) (r : Session)
-        → r ≡ afterTurns shape sent received (record { session = s; strands = strands }) turns .session
-        → r ≡ afterTurns shape sent received (started shape sent received initiator purpose strandsInside) turns .session
-    taken-inside turns r e = e ∙ ap (λ (o : Ongoing). afterTurns shape sent received o turns .session) started-is
+        → r ≡ afterTurns tables (record { session = s; strands = strands }) turns .session
+        → r ≡ afterTurns tables (started tables initiator purpose strandsInside) turns .session
+    taken-inside turns r e = e ∙ ap (λ (o : Ongoing). afterTurns tables o turns .session) started-is

@@ -8,7 +8,7 @@ use native.Mathlib.Omega.{arith}
 use native.Mathlib.Numerals.{add-one}
 use borrow.Author.Tests.{eq-eqb, ne-eqb}
 use Rattle.book.specs.declared.Process.{Process}
-use Rattle.lists.proofs.Fills.{below-more}
+use Rattle.lists.proofs.Before.{Before}
 use Rattle.strands.specs.Strands.{lengthOn}
 use Rattle.session.specs.declared.Session.{Session}
 use Rattle.session.specs.Workers.{waitsOn}
@@ -17,16 +17,8 @@ use Rattle.demand3.proofs.Exactly.{waits-some, waits-none}
 use Rattle.searches.specs.Lowest.{lowestFrom, lowestWaiting}
 
 -- the loop that looks for it, over the lengths: nothing waits on the strands so far
-pub record NoneYet (lengths : List ℕ) (k : ℕ) : Type 0 where
-  pub within : k ≤ 16
-  pub none : (q : ℕ) → q < k → lengthOn lengths q ≡ 0
-
-pub none-yet : (lengths : List ℕ) → NoneYet lengths 0
-none-yet lengths = record { within = omega arith; none = λ q before. absurd (omega arith) }
-
-pub none-more : (lengths : List ℕ) (k : ℕ) → NoneYet lengths k → k < 16 → lengthOn lengths k ≡ 0 → NoneYet lengths (k + 1)
-none-more lengths k n small here =
-    record { within = omega arith; none = below-more (λ q. lengthOn lengths q ≡ 0) k (n .none) here }
+abbrev pub NoneYet : List ℕ → ℕ → Type 0
+NoneYet lengths k = Before 16 (λ q. lengthOn lengths q ≡ 0) k
 
 module _ (s : Session) where
   -- a message waits at k, or it does not
@@ -68,12 +60,12 @@ module _ (s : Session) where
       → _≡_ {A = Process} (record { 0 = k + 1 }) (lowestWaiting s)
   lowest-is k n small some =
       let at : lowestFrom 0 16 s ≡ suc k =
-      lowest-at k small (λ q before. quiet q (n .none q before)) (ap not (ne-eqb (lengthOn (s .lengths) k) 0 some)) in
+      lowest-at k small (λ q before. quiet q (n .so-far q before)) (ap not (ne-eqb (lengthOn (s .lengths) k) 0 some)) in
       ap {B = Process} (λ (p : ℕ). record { 0 = p }) (add-one k ∙ sym at)
 
   lowest-is-none : (k : ℕ) → NoneYet (s .lengths) k → 16 ≤ k → _≡_ {A = Process} (record { 0 = 0 }) (lowestWaiting s)
   lowest-is-none k n all =
-      let none : lowestFrom 0 16 s ≡ 0 = lowest-nowhere (λ q small. quiet q (n .none q (omega arith))) in
+      let none : lowestFrom 0 16 s ≡ 0 = lowest-nowhere (λ q small. quiet q (n .so-far q (omega arith))) in
       ap {B = Process} (λ (p : ℕ). record { 0 = p }) (sym none)
 
   -- what is found: one of these processes, on whose strand a message waits,

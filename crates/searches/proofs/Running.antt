@@ -7,6 +7,7 @@ use native.Mathlib.Numerals.{add-one}
 use native.Mathlib.Omega.{arith}
 use lib.ListN.{length, drop, getD, drop-of-length-le}
 use lib.Seq.{drop-cons}
+use Rattle.book.specs.Lent.{Tables, lent}
 use Rattle.book.specs.declared.Answer.{Answer}
 use Rattle.book.specs.declared.Answer.the-variants.{Accepted}
 use Rattle.book.specs.declared.Shape.{Shape}
@@ -31,17 +32,17 @@ use Rattle.searches.proofs.Theorems.{named-purposed}
 
 -- ---- a list of turns
 
-module _ (shape : Shape) (sent received : List ℕ) where
+module _ (t : Tables) where
   -- from o₀ on the first i turns have led to o
   pub record Taken (o₀ o : Ongoing) (list : List ℕ) (i : ℕ) : Type 0 where
     pub within : i ≤ length list
-    pub rest : afterTurns shape sent received o₀ (asProcesses list) ≡ afterTurns shape sent received o (asProcesses (drop i list))
+    pub rest : afterTurns t o₀ (asProcesses list) ≡ afterTurns t o (asProcesses (drop i list))
 
   pub taken-none : (o₀ : Ongoing) (list : List ℕ) → Taken o₀ o₀ list 0
   taken-none o₀ list = record { within = omega arith; rest = refl }
 
   module _ (o₀ o : Ongoing) (list : List ℕ) (i : ℕ) (taken : Taken o₀ o list i) where
-    taken-more : i < length list → Taken o₀ (afterTurn shape sent received o (record { 0 = getD list i 0 })) list (i + 1)
+    taken-more : i < length list → Taken o₀ (afterTurn t o (record { 0 = getD list i 0 })) list (i + 1)
     unfolding asProcesses afterTurns
     taken-more more =
         let next : drop i list ≡ getD list i 0 ∷ drop (suc i) list = drop-cons list i 0 more in
@@ -49,21 +50,20 @@ module _ (shape : Shape) (sent received : List ℕ) where
           within = omega arith;
           rest =
               rw (add-one i)
-              (taken .rest ∙ ap (λ (turns : List ℕ). afterTurns shape sent received o (asProcesses turns)) next);
+              (taken .rest ∙ ap (λ (turns : List ℕ). afterTurns t o (asProcesses turns)) next);
         }
 
     -- as a call of `turn` leaves it
     pub turn-taken : (p : ℕ) (s : Session) (strands : List ℕ) → i < length list → p ≡ getD list i 0
-        → s ≡ afterTurn shape sent received o (record { 0 = p }) .session
-        → strands ≡ afterTurn shape sent received o (record { 0 = p }) .strands
+        → s ≡ afterTurn t o (record { 0 = p }) .session → strands ≡ afterTurn t o (record { 0 = p }) .strands
         → Taken o₀ (record { session = s; strands = strands }) list (i + 1)
     turn-taken p s strands more e session-left strands-left = rw (session-left, strands-left, e) (taken-more more)
 
-    pub taken-all : length list ≤ i → afterTurns shape sent received o₀ (asProcesses list) ≡ o
+    pub taken-all : length list ≤ i → afterTurns t o₀ (asProcesses list) ≡ o
     unfolding asProcesses afterTurns
     taken-all all =
         taken .rest
-        ∙ ap (λ (turns : List ℕ). afterTurns shape sent received o (asProcesses turns)) (drop-of-length-le list {i = i} all)
+        ∙ ap (λ (turns : List ℕ). afterTurns t o (asProcesses turns)) (drop-of-length-le list {i = i} all)
 
 -- ---- demand 3
 
@@ -170,7 +170,7 @@ module _ (bytes sent received : List ℕ) (initiator : Process) (purpose : ℕ) 
       (received-is : received′ ≡ receivedTable (bookRead bytes))
       (session-is :
       session
-      ≡ afterTurns shape sent′ received′ (started shape sent′ received′ initiator purpose strandsInside) (asProcesses list) .session)
+      ≡ afterTurns (lent shape sent′ received′) (started (lent shape sent′ received′) initiator purpose strandsInside) (asProcesses list) .session)
     where
       reads-none : reads ≡ 0
       reads-none = run-read bytes sent received initiator purpose accepted

@@ -6,7 +6,7 @@ use Prim.Native.Nat.{ℕ, suc, _+_, _-_, _*_, _≤_, _<_}
 use native.Mathlib.Numerals.{add-one}
 use native.Mathlib.Omega.{arith}
 use borrow.Author.Tests.{lt-ltb, eq-eqb, ne-eqb}
-use lib.ListN.{length, getD, set, length-set}
+use lib.ListN.{length, getD, set}
 use lib.Dec.{eqb}
 use Rattle.book.specs.declared.Shape.{Shape}
 use Rattle.book.specs.declared.Checkpoint.{Checkpoint}
@@ -17,9 +17,8 @@ use Rattle.line_theory.specs.Sets.{newerThan}
 use Rattle.lists.proofs.Over.{sum-ext, at-place}
 use Rattle.line_theory.proofs.Accepted.{accepted-few}
 use Rattle.consistency.specs.Set.{chosen}
-use Rattle.lists.proofs.Fills.{fill-more}
 use Rattle.finder.specs.Line.{checkpoints}
-use Rattle.finder.proofs.Sixteen.{checkpoints-are, chosen-there}
+use Rattle.finder.proofs.Sixteen.{chosen-there}
 use Rattle.lists.specs.Pick.{pick}
 use Rattle.participant.specs.declared.Participant.{Participant}
 use Rattle.participant.specs.Calls.{noParticipant}
@@ -35,28 +34,6 @@ use Rattle.searches.proofs.Ends.{endIn}
 abbrev pub standsBy : List Participant → Initiator → ℕ → ℕ → ℕ
 standsBy participants machine own j =
     pick (eqb j own) (machine .candidate .0) (getD participants j noParticipant .candidate .0)
-
--- filled up to a place
-pub record Filled (c : ℕ → ℕ) (l : List Checkpoint) (k : ℕ) : Type 0 where
-  pub within : k ≤ 16
-  pub long : length l ≡ 16
-  pub so-far : (j : ℕ) → j < k → chosen l j ≡ c j
-
-module _ (c : ℕ → ℕ) (l : List Checkpoint) where
-  pub filled-none : length l ≡ 16 → Filled c l 0
-  filled-none long = record { within = omega arith; long = long; so-far = λ j h. absurd (omega arith) }
-
-  pub filled-more : (k : ℕ) (r : Checkpoint) → Filled c l k → k < 16 → r .0 ≡ c k → Filled c (set l k r) (k + 1)
-  filled-more k r filled small here =
-      let P : ℕ → Checkpoint → Type 0 = λ j v. v .0 ≡ c j in
-      record {
-        within = omega arith;
-        long = simp length-set (filled .long);
-        so-far = fill-more P (record { 0 = 0 }) l k r (omega (arith, filled .long)) (filled .so-far) here;
-      }
-
-  pub filled-all : (k : ℕ) → Filled c l k → 16 ≤ k → l ≡ checkpoints c
-  filled-all k filled all = checkpoints-are l c (filled .long) (λ j small. filled .so-far j (omega arith))
 
 -- where a process stands, by whether it is the initiator; the place is one of the list, so that what stands beyond does not matter
 module _ (participants : List Participant) (machine : Initiator) (own j : ℕ) where
@@ -99,14 +76,14 @@ module _ (shape : Shape) (set : List Checkpoint) where
 -- ---- where everybody ends is among its checkpoints
 
 module _ (g : Search) (is : IsSearch g) where
-  end-among : (j : ℕ) → j < size g → endIn g j ≤ count (g .shape) j
+  end-among : (j : ℕ) → j < size g → endIn g j ≤ count (g .tables .shape) j
   end-among j small = go (restarts g) refl
     where
-      go : (v : Bool) → restarts g ≡ v → endIn g j ≤ count (g .shape) j
+      go : (v : Bool) → restarts g ≡ v → endIn g j ≤ count (g .tables .shape) j
       go true e = rw (e, lt-ltb j (size g) small) (book-is g is .some j small)
       go false e = rw e (line-is g is .is-set .among j small)
 
-  pub end-is-among : Among (g .shape) (checkpoints (endIn g))
+  pub end-is-among : Among (g .tables .shape) (checkpoints (endIn g))
   end-is-among =
       record {
         few = few g is;
@@ -118,15 +95,15 @@ module _ (g : Search) (is : IsSearch g) where
             λ j small.
             omega (
               arith,
-              sum-more (g .shape .counts) j,
-              sum-take (g .shape .counts) (suc j),
-              accepted-few (g .shape) (g .sent) (g .received) (is .long) (is .accepted),
+              sum-more (g .tables .shape .counts) j,
+              sum-take (g .tables .shape .counts) (suc j),
+              accepted-few (is .accepted),
             );
       }
 
   -- how many are newer
-  pub end-passed : sumTo (size g) (λ j. count (g .shape) j - chosen (checkpoints (endIn g)) j) ≡ newerThan (viewIn g) (endIn g)
+  pub end-passed : sumTo (size g) (λ j. count (g .tables .shape) j - chosen (checkpoints (endIn g)) j) ≡ newerThan (viewIn g) (endIn g)
   unfolding newerThan
   end-passed =
-      sum-ext (size g) (λ j. count (g .shape) j - chosen (checkpoints (endIn g)) j) (λ j. count (g .shape) j - endIn g j)
-      (λ j small. ap (λ (r : ℕ). count (g .shape) j - r) (chosen-there (endIn g) j (omega (arith, few g is))))
+      sum-ext (size g) (λ j. count (g .tables .shape) j - chosen (checkpoints (endIn g)) j) (λ j. count (g .tables .shape) j - endIn g j)
+      (λ j small. ap (λ (r : ℕ). count (g .tables .shape) j - r) (chosen-there (endIn g) j (omega (arith, few g is))))

@@ -3,7 +3,7 @@ use mathlib.Core.Bool.{true, false}
 use mathlib.Core.List.{List}
 use Prim.Native.Nat.{ℕ, zero, suc}
 use lib.ListN.{replicate}
-use Rattle.book.specs.declared.Shape.{Shape}
+use Rattle.book.specs.Lent.{Tables}
 use Rattle.book.specs.declared.Process.{Process}
 use Rattle.book.specs.Bounds.{mostProcesses}
 use Rattle.line_theory.specs.OfTables.{viewOf}
@@ -25,16 +25,16 @@ lowestFrom k (suc left) session = elim (waitsOn session k) [ true ↦ suc k | fa
 abbrev pub lowestWaiting : Session → Process
 lowestWaiting session = record { 0 = lowestFrom 0 mostProcesses session }
 
-module _ (shape : Shape) (sent received : List ℕ) where
+module _ (tables : Tables) where
   -- turns until nothing waits, so many at most
   unfoldable pub toEnd : ℕ → Ongoing → Ongoing
   toEnd zero o = o
   toEnd (suc left) o =
       elim (messageWaits (o .session)) [
-        | true ↦ toEnd left (afterTurn shape sent received o (lowestWaiting (o .session)))
+        | true ↦ toEnd left (afterTurn tables o (lowestWaiting (o .session)))
         | false ↦ o
       ]
 
   -- a session from its start to its end, which demand 3's bound suffices for (purpose 2 needs only n − 1 turns)
   unfoldable pub searched : Process → ℕ → Ongoing
-  searched initiator purpose = toEnd (mostDelivered (viewOf shape sent received)) (started shape sent received initiator purpose strandsInside)
+  searched initiator purpose = toEnd (mostDelivered (viewOf tables)) (started tables initiator purpose strandsInside)

@@ -3,6 +3,7 @@ use mathlib.Core.Path.{_≡_}
 use mathlib.Core.List.{List}
 use Prim.Native.Nat.{ℕ, _≤_, _<_}
 use lib.ListN.{length}
+use Rattle.book.specs.Lent.{Tables}
 use Rattle.book.specs.declared.Shape.{Shape}
 use Rattle.book.specs.declared.Process.{Process}
 use Rattle.book.specs.declared.Checkpoint.{Checkpoint}
@@ -15,13 +16,13 @@ use Rattle.searches.specs.Lowest.{strandsInside}
 use Rattle.searches.specs.Search.{searchQuestion}
 
 -- a session, and its strands, as a search leaves them when it starts
-pub record Started (shape : Shape) (sent received : List ℕ) (session : Session) (strands : List ℕ) : Type 0 where
+pub record Started (tables : Tables) (session : Session) (strands : List ℕ) : Type 0 where
   pub initiator : Process
   pub purpose : ℕ
-  pub long : length (shape .counts) ≡ mostProcesses
-  pub accepted : searchQuestion shape sent received initiator purpose ≡ 0
-  pub session-left : session ≡ sessionStarted shape sent received initiator purpose strandsInside
-  pub strands-left : strands ≡ strandsStarted shape sent received initiator purpose strandsInside
+  pub long : length (tables .shape .counts) ≡ mostProcesses
+  pub accepted : searchQuestion tables initiator purpose ≡ 0
+  pub session-left : session ≡ sessionStarted tables initiator purpose strandsInside
+  pub strands-left : strands ≡ strandsStarted tables initiator purpose strandsInside
 
 -- the checkpoints of a set, of each process that there is, are among the process's own
 pub record Among (shape : Shape) (set : List Checkpoint) : Type 0 where

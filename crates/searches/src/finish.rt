@@ -6,6 +6,7 @@ use book::Shape;
 use session::Session;
 ghost use mathlib.Core.Path.{_≡_};
 ghost use Prim.Native.Nat.{_-_, _≤_};
+ghost use Rattle.book.specs.Lent.{lent};
 ghost use Rattle.book.specs.View.{count};
 ghost use Rattle.lists.specs.Over.{sumTo};
 ghost use Rattle.line_theory.specs.OfTables.{viewOf};
@@ -39,8 +40,8 @@ pub(crate) fn finish(
     received: &[Counter],
     strands: &mut [u8],
 ) -> Session
-    requires { ⌜ Started shape (now sent) (now received) session (now strands) ⌝ }
-    ensures { λ r. ⌜ r ≡ toEnd shape (now (sent .entry)) (now (received .entry)) (mostDelivered (viewOf shape (now (sent .entry)) (now (received .entry)))) (record { session = session; strands = now (strands .entry) }) .session ⌝ }
+    requires { ⌜ Started (lent shape (now sent) (now received)) session (now strands) ⌝ }
+    ensures { λ r. ⌜ r ≡ toEnd (lent shape (now (sent .entry)) (now (received .entry))) (mostDelivered (viewOf (lent shape (now (sent .entry)) (now (received .entry))))) (record { session = session; strands = now (strands .entry) }) .session ⌝ }
 {
     let rows = book::rows_of(shape);
     let mut next = session;

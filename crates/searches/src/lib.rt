@@ -9,6 +9,7 @@ use book::Shape;
 use session::Session;
 ghost use mathlib.Core.Path.{_≡_};
 ghost use Prim.Native.Nat.{_≤_};
+ghost use Rattle.book.specs.Lent.{lent};
 ghost use Rattle.book.specs.InTurn.{answerTo};
 ghost use Rattle.book.specs.Read.{noShape};
 ghost use Rattle.finder.specs.Line.{noLine};
@@ -17,9 +18,6 @@ ghost use Rattle.session.specs.Turns.{started, afterTurns};
 ghost use Rattle.searches.specs.Lowest.{strandsInside, searched};
 ghost use Rattle.searches.specs.Run.{asProcesses, runQuestion, shapeRun, sentRun, receivedRun, sessionRun, CarriesDemand3};
 ghost use Rattle.searches.specs.Search.{searchQuestion, setSearched, newerSearched, roundsSearched, messagesSearched, EndedThere};
-
-// How many bytes sixteen processes' strands take: the strands of a search lie inside.
-pub const STRANDS: usize = 1410;
 
 // The answer of `run`: the book's shape, and the session after the turns. Beside a refusal both are all zero (and the initiator
 // ended).
@@ -39,11 +37,11 @@ pub struct SearchAnswer {
     pub messages: u32,
 }
 
-// The strands, made by a function of their own, so that no proof meets their many bytes one by one.
-fn strands_inside() -> [u8; STRANDS]
+// The strands of a search, which lie inside: made by a function of their own, so that no proof meets their many bytes one by one.
+fn strands_inside() -> [u8; strands::ROOM_FOR_ALL]
     ensures { λ r. ⌜ r ≡ strandsInside ⌝ }
 {
-    [0; STRANDS]
+    [0; strands::ROOM_FOR_ALL]
 }
 
 // Beside a refusal.
@@ -68,8 +66,8 @@ fn take_turns(
     list: &[usize],
     strands: &mut [u8],
 ) -> Session
-    ensures { λ r. ⌜ r ≡ afterTurns shape (now (sent .entry)) (now (received .entry)) (record { session = session; strands = now (strands .entry) }) (asProcesses (now (list .entry))) .session ⌝ }
-    ensures { λ _. ⌜ now (strands .exit) ≡ afterTurns shape (now (sent .entry)) (now (received .entry)) (record { session = session; strands = now (strands .entry) }) (asProcesses (now (list .entry))) .strands ⌝ }
+    ensures { λ r. ⌜ r ≡ afterTurns (lent shape (now (sent .entry)) (now (received .entry))) (record { session = session; strands = now (strands .entry) }) (asProcesses (now (list .entry))) .session ⌝ }
+    ensures { λ _. ⌜ now (strands .exit) ≡ afterTurns (lent shape (now (sent .entry)) (now (received .entry))) (record { session = session; strands = now (strands .entry) }) (asProcesses (now (list .entry))) .strands ⌝ }
 {
     let mut next = session;
     let mut i = 0;
@@ -91,7 +89,7 @@ fn start_and_take(
     purpose: u64,
     list: &[usize],
 ) -> Session
-    ensures { λ r. ⌜ r ≡ afterTurns shape (now (sent .entry)) (now (received .entry)) (started shape (now (sent .entry)) (now (received .entry)) initiator purpose strandsInside) (asProcesses (now (list .entry))) .session ⌝ }
+    ensures { λ r. ⌜ r ≡ afterTurns (lent shape (now (sent .entry)) (now (received .entry))) (started (lent shape (now (sent .entry)) (now (received .entry))) initiator purpose strandsInside) (asProcesses (now (list .entry))) .session ⌝ }
 {
     let mut strands = strands_inside();
     let begun = turns::start(shape, sent, received, initiator, purpose, &mut strands);
@@ -156,8 +154,8 @@ fn start_and_finish(
     initiator: Process,
     purpose: u64,
 ) -> Session
-    requires { ⌜ searchQuestion shape (now sent) (now received) initiator purpose ≡ 0 ⌝ }
-    ensures { λ r. ⌜ r ≡ searched shape (now (sent .entry)) (now (received .entry)) initiator purpose .session ⌝ }
+    requires { ⌜ searchQuestion (lent shape (now sent) (now received)) initiator purpose ≡ 0 ⌝ }
+    ensures { λ r. ⌜ r ≡ searched (lent shape (now (sent .entry)) (now (received .entry))) initiator purpose .session ⌝ }
 {
     let mut strands = strands_inside();
     let begun = turns::take_start(shape, sent, received, initiator, purpose, &mut strands);
@@ -173,12 +171,12 @@ pub fn search(
     initiator: Process,
     purpose: u64,
 ) -> SearchAnswer
-    ensures { λ r. ⌜ r .answer ≡ answerTo (searchQuestion shape (now (sent .entry)) (now (received .entry)) initiator purpose) ⌝ }
-    ensures { λ r. ⌜ r .set ≡ setSearched shape (now (sent .entry)) (now (received .entry)) initiator purpose ⌝ }
-    ensures { λ r. ⌜ r .newer ≡ newerSearched shape (now (sent .entry)) (now (received .entry)) initiator purpose ⌝ }
-    ensures { λ r. ⌜ r .rounds ≡ roundsSearched shape (now (sent .entry)) (now (received .entry)) initiator purpose ⌝ }
-    ensures { λ r. ⌜ r .messages ≡ messagesSearched shape (now (sent .entry)) (now (received .entry)) initiator purpose ⌝ }
-    ensures { λ _. ⌜ EndedThere shape (now (sent .entry)) (now (received .entry)) initiator purpose ⌝ }
+    ensures { λ r. ⌜ r .answer ≡ answerTo (searchQuestion (lent shape (now (sent .entry)) (now (received .entry))) initiator purpose) ⌝ }
+    ensures { λ r. ⌜ r .set ≡ setSearched (lent shape (now (sent .entry)) (now (received .entry))) initiator purpose ⌝ }
+    ensures { λ r. ⌜ r .newer ≡ newerSearched (lent shape (now (sent .entry)) (now (received .entry))) initiator purpose ⌝ }
+    ensures { λ r. ⌜ r .rounds ≡ roundsSearched (lent shape (now (sent .entry)) (now (received .entry))) initiator purpose ⌝ }
+    ensures { λ r. ⌜ r .messages ≡ messagesSearched (lent shape (now (sent .entry)) (now (received .entry))) initiator purpose ⌝ }
+    ensures { λ _. ⌜ EndedThere (lent shape (now (sent .entry)) (now (received .entry))) initiator purpose ⌝ }
 {
     let question = tables::question(shape, sent, received);
     if question != 0 {

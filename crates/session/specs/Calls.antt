@@ -3,7 +3,7 @@ use mathlib.Core.Bool.{_&&_}
 use mathlib.Core.List.{List}
 use Prim.Native.Nat.{ℕ, _-_}
 use lib.ListN.{replicate}
-use Rattle.book.specs.declared.Shape.{Shape}
+use Rattle.book.specs.Lent.{Tables}
 use Rattle.book.specs.declared.Process.{Process}
 use Rattle.book.specs.Bounds.{mostProcesses}
 use Rattle.book.specs.InTurn.{_then_, ask, unlessRefused}
@@ -23,13 +23,13 @@ use Rattle.session.specs.Steps.{begun, deliver, withPosted}
 
 -- ---- a session starts
 
-unfoldable pub startQuestion : Shape → List ℕ → List ℕ → Process → ℕ → List ℕ → ℕ
-startQuestion shape sent received initiator purpose strands =
-    tablesQuestion shape sent received
-    then λ _. ask 10 (isNamed (shape .n) (initiator .0))
+unfoldable pub startQuestion : Tables → Process → ℕ → List ℕ → ℕ
+startQuestion tables initiator purpose strands =
+    tablesQuestion tables
+    then λ _. ask 10 (isNamed (tables .shape .n) (initiator .0))
     then λ _. ask 11 (isPurpose purpose)
     then λ _. ask 17
-    (haveRoom (shape .n) (initiator .0 - 1) (begun shape sent received initiator purpose .outgoing) strands)
+    (haveRoom (tables .shape .n) (initiator .0 - 1) (begun tables initiator purpose .outgoing) strands)
 
 -- beside a refusal: all zero (and the initiator ended)
 unfoldable pub noSession : Session
@@ -44,41 +44,41 @@ noSession =
       delivered = 0;
     }
 
-unfoldable pub sessionStarted : Shape → List ℕ → List ℕ → Process → ℕ → List ℕ → Session
-sessionStarted shape sent received initiator purpose strands =
-    unlessRefused (startQuestion shape sent received initiator purpose strands) noSession
-    (withPosted (begun shape sent received initiator purpose))
+unfoldable pub sessionStarted : Tables → Process → ℕ → List ℕ → Session
+sessionStarted tables initiator purpose strands =
+    unlessRefused (startQuestion tables initiator purpose strands) noSession
+    (withPosted (begun tables initiator purpose))
 
-unfoldable pub strandsStarted : Shape → List ℕ → List ℕ → Process → ℕ → List ℕ → List ℕ
-strandsStarted shape sent received initiator purpose strands =
-    unlessRefused (startQuestion shape sent received initiator purpose strands) strands
-    (posted (shape .n) (initiator .0 - 1) (begun shape sent received initiator purpose .outgoing) strands)
+unfoldable pub strandsStarted : Tables → Process → ℕ → List ℕ → List ℕ
+strandsStarted tables initiator purpose strands =
+    unlessRefused (startQuestion tables initiator purpose strands) strands
+    (posted (tables .shape .n) (initiator .0 - 1) (begun tables initiator purpose .outgoing) strands)
 
 -- ---- a turn
 
 -- what the turn that names process p comes to: the session after the delivery, and what is put on strands
-abbrev pub turned : Shape → List ℕ → List ℕ → Session → Process → List ℕ → Turned
-turned shape sent received session p strands =
+abbrev pub turned : Tables → Session → Process → List ℕ → Turned
+turned tables session p strands =
     let k : ℕ = p .0 - 1 in
-    let s : List ℕ = waitingBytes (shape .n) session strands k in
-    deliver shape sent received session k s (held (shape .n) session k s)
+    let s : List ℕ = waitingBytes (tables .shape .n) session strands k in
+    deliver tables session k s (held (tables .shape .n) session k s)
 
-unfoldable pub turnQuestion : Shape → List ℕ → List ℕ → Session → Process → List ℕ → ℕ
-turnQuestion shape sent received session p strands =
-    tablesQuestion shape sent received
-    then λ _. ask 10 (participantNamed (shape .n) (p .0) (session .initiator .0) && sessionNamed (shape .n) session)
+unfoldable pub turnQuestion : Tables → Session → Process → List ℕ → ℕ
+turnQuestion tables session p strands =
+    tablesQuestion tables
+    then λ _. ask 10 (participantNamed (tables .shape .n) (p .0) (session .initiator .0) && sessionNamed (tables .shape .n) session)
     then λ _. ask 11 (sessionPurposes session)
-    then λ _. ask 13 (sessionFits shape sent received session strands)
+    then λ _. ask 13 (sessionFits tables session strands)
     then λ _. ask 17
-    (haveRoom (shape .n) (initiatorOf session) (turned shape sent received session p strands .outgoing) strands)
+    (haveRoom (tables .shape .n) (initiatorOf session) (turned tables session p strands .outgoing) strands)
     then λ _. ask 18 (waitsOn session (p .0 - 1))
 
-unfoldable pub sessionAfter : Shape → List ℕ → List ℕ → Session → Process → List ℕ → Session
-sessionAfter shape sent received session p strands =
-    unlessRefused (turnQuestion shape sent received session p strands) session
-    (withPosted (turned shape sent received session p strands))
+unfoldable pub sessionAfter : Tables → Session → Process → List ℕ → Session
+sessionAfter tables session p strands =
+    unlessRefused (turnQuestion tables session p strands) session
+    (withPosted (turned tables session p strands))
 
-unfoldable pub strandsAfter : Shape → List ℕ → List ℕ → Session → Process → List ℕ → List ℕ
-strandsAfter shape sent received session p strands =
-    unlessRefused (turnQuestion shape sent received session p strands) strands
-    (posted (shape .n) (initiatorOf session) (turned shape sent received session p strands .outgoing) strands)
+unfoldable pub strandsAfter : Tables → Session → Process → List ℕ → List ℕ
+strandsAfter tables session p strands =
+    unlessRefused (turnQuestion tables session p strands) strands
+    (posted (tables .shape .n) (initiatorOf session) (turned tables session p strands .outgoing) strands)

@@ -4,7 +4,7 @@ use mathlib.Core.List.{List}
 use Prim.Native.Nat.{ℕ, suc, _+_}
 use lib.ListN.{length}
 use lib.Dec.{ltb, leb, eqb}
-use Rattle.book.specs.declared.Shape.{Shape}
+use Rattle.book.specs.Lent.{Tables}
 use Rattle.book.specs.Bounds.{mostProcesses}
 use Rattle.lists.specs.Over.{allTo}
 use Rattle.lists.specs.Pick.{pick}
@@ -12,7 +12,7 @@ use Rattle.matrix.specs.Matrix.{asRow}
 use Rattle.matrix.specs.Entries.{same}
 use Rattle.book.specs.Names.{isNamed, isPurpose}
 use Rattle.machine.specs.Own.{ownOf}
-use Rattle.machine.specs.Named.{participantNamed, isParticipant, countLimit}
+use Rattle.machine.specs.Named.{participantNamed, isParticipant, tallyLimit}
 use Rattle.machine.specs.Flags.{flag}
 use Rattle.participant.specs.declared.Participant.{Participant}
 use Rattle.participant.specs.declared.Stage.{Stage}
@@ -67,20 +67,20 @@ sessionPurposes session =
 -- ---- 13
 
 -- "every machine fits; n, purpose and initiator agree"
-unfoldable pub initiatorFits : Shape → List ℕ → List ℕ → Session → Bool
-initiatorFits shape sent received session =
+unfoldable pub initiatorFits : Tables → Session → Bool
+initiatorFits tables session =
     eqb (session .machine .me .0) (session .initiator .0)
     && (eqb (session .machine .purpose) (session .purpose)
-    && initiator.fits (ownOf shape sent received (initiatorOf session)) (session .machine))
+    && initiator.fits (ownOf tables (initiatorOf session)) (session .machine))
 
 -- (the machine at place k is that of process k + 1: our reading of "fit", beside 01's list)
-unfoldable pub participantFits : Shape → List ℕ → List ℕ → Session → ℕ → Bool
-participantFits shape sent received session k =
+unfoldable pub participantFits : Tables → Session → ℕ → Bool
+participantFits tables session k =
     let p : Participant = participantAt session k in
     eqb (p .me .0) (suc k)
     && (eqb (p .initiator .0) (session .initiator .0)
     && (eqb (p .purpose) (session .purpose)
-    && participant.fits (ownOf shape sent received k) p))
+    && participant.fits (ownOf tables k) p))
 
 -- what waits lies within the strand's slot and within the buffer: our reading of "fit", beside 01's list
 unfoldable pub strandWithin : ℕ → Session → List ℕ → ℕ → Bool
@@ -101,19 +101,19 @@ strandFits session k w =
 
 -- Each place, with its strand. (That the places of absent processes and the initiator's own are empty is our reading of "fit",
 -- beside 01's list.)
-unfoldable pub placeFits : Shape → List ℕ → List ℕ → Session → List ℕ → ℕ → Bool
-placeFits shape sent received session strands k =
-    pick (isParticipant (shape .n) (initiatorOf session) k)
-    (participantFits shape sent received session k
-    && (strandWithin (shape .n) session strands k
-    && strandFits session k (held (shape .n) session k (waitingBytes (shape .n) session strands k))))
+unfoldable pub placeFits : Tables → Session → List ℕ → ℕ → Bool
+placeFits tables session strands k =
+    pick (isParticipant (tables .shape .n) (initiatorOf session) k)
+    (participantFits tables session k
+    && (strandWithin (tables .shape .n) session strands k
+    && strandFits session k (held (tables .shape .n) session k (waitingBytes (tables .shape .n) session strands k))))
     (isAbsent (participantAt session k) && eqb (lengthOn (session .lengths) k) 0)
 
 -- 13: "Does the state fit the tables?"
-unfoldable pub sessionFits : Shape → List ℕ → List ℕ → Session → List ℕ → Bool
-sessionFits shape sent received session strands =
-    eqb (session .n) (shape .n)
-    && (initiatorFits shape sent received session
-    && (allTo mostProcesses (placeFits shape sent received session strands)
+unfoldable pub sessionFits : Tables → Session → List ℕ → Bool
+sessionFits tables session strands =
+    eqb (session .n) (tables .shape .n)
+    && (initiatorFits tables session
+    && (allTo mostProcesses (placeFits tables session strands)
     -- "Counts of rounds and deliveries are below 4,294,967,295."
-    && ltb (session .delivered) countLimit))
+    && ltb (session .delivered) tallyLimit))

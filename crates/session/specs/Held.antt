@@ -45,33 +45,25 @@ held n session k s =
     (pick (eqb (senderIn s) (session .initiator .0)) (heldDown n (participantAt session k) s)
     (pick (eqb (senderIn s) (suc k)) (heldUp n (session .machine) s) Stray))
 
+-- a value for each thing that a strand can hold
+abbrev pub byWaiting : {A : Type 0} → (nothing asking ending report stray : A) → Waiting → A
+byWaiting nothing asking ending report stray Nothing = nothing
+byWaiting nothing asking ending report stray Asking = asking
+byWaiting nothing asking ending report stray Ending = ending
+byWaiting nothing asking ending report stray Report = report
+byWaiting nothing asking ending report stray Stray = stray
+
 -- "a searching invitation, a poll or a report"
 abbrev pub isAwaited : Waiting → Bool
-isAwaited Nothing = false
-isAwaited Asking = true
-isAwaited Ending = false
-isAwaited Report = true
-isAwaited Stray = false
+isAwaited w = byWaiting false true false true false w
 
 -- "no termination waits". A restart's invitation counts here too: with purpose 2 nothing can be awaited, so a waiting initiator
 -- fails 13 in any case.
 abbrev pub isEnding : Waiting → Bool
-isEnding Nothing = false
-isEnding Asking = false
-isEnding Ending = true
-isEnding Report = false
-isEnding Stray = false
+isEnding w = byWaiting false false true false false w
 
 abbrev pub isReport : Waiting → Bool
-isReport Nothing = false
-isReport Asking = false
-isReport Ending = false
-isReport Report = true
-isReport Stray = false
+isReport w = byWaiting false false false true false w
 
 abbrev pub isStray : Waiting → Bool
-isStray Nothing = false
-isStray Asking = false
-isStray Ending = false
-isStray Report = false
-isStray Stray = true
+isStray w = byWaiting false false false false true w

@@ -3,7 +3,7 @@
 use mathlib.Core.List.{List}
 use Prim.Native.Nat.{ℕ, suc, _+_, _-_}
 use lib.ListN.{set}
-use Rattle.book.specs.declared.Shape.{Shape}
+use Rattle.book.specs.Lent.{Tables}
 use Rattle.book.specs.declared.Process.{Process}
 use Rattle.book.specs.Bounds.{mostProcesses}
 use Rattle.lists.specs.Over.{tab}
@@ -33,24 +33,24 @@ use Rattle.session.specs.Workers.{initiatorOf, participantAt}
 -- ---- the start
 
 -- the machine at place k before the invitation: a participant's first state, or all zero
-abbrev pub placeAtStart : Shape → List ℕ → List ℕ → Process → ℕ → ℕ → Participant
-placeAtStart shape sent received initiator purpose k =
-    pick (isParticipant (shape .n) (initiator .0 - 1) k)
-    (participant.first (ownOf shape sent received k) (record { 0 = suc k }) initiator purpose)
+abbrev pub placeAtStart : Tables → Process → ℕ → ℕ → Participant
+placeAtStart tables initiator purpose k =
+    pick (isParticipant (tables .shape .n) (initiator .0 - 1) k)
+    (participant.first (ownOf tables k) (record { 0 = suc k }) initiator purpose)
     participant-calls.noParticipant
 
 -- the initiator begins; nothing waits yet, and nothing was delivered
-unfoldable pub begun : Shape → List ℕ → List ℕ → Process → ℕ → Turned
-begun shape sent received initiator purpose =
-    let next : InitiatorStep = begin (ownOf shape sent received (initiator .0 - 1)) initiator purpose in
+unfoldable pub begun : Tables → Process → ℕ → Turned
+begun tables initiator purpose =
+    let next : InitiatorStep = begin (ownOf tables (initiator .0 - 1)) initiator purpose in
     record {
       session =
           record {
-            n = shape .n;
+            n = tables .shape .n;
             initiator = initiator;
             purpose = purpose;
             machine = next .state;
-            participants = tab mostProcesses (placeAtStart shape sent received initiator purpose);
+            participants = tab mostProcesses (placeAtStart tables initiator purpose);
             lengths = noLengths;
             delivered = 0;
           };
@@ -59,18 +59,23 @@ begun shape sent received initiator purpose =
 
 -- ---- a turn
 
--- the session after the message on k's strand was delivered: the strand is empty, and the delivery counted
-abbrev pub deliveredOn : Session → ℕ → Initiator → List Participant → Session
-deliveredOn session k machine participants =
+-- further on in the same search: n, the names and the purpose stay
+abbrev pub onward : Session → Initiator → List Participant → (lengths : List ℕ) (delivered : ℕ) → Session
+onward session machine participants lengths delivered =
     record {
       n = session .n;
       initiator = session .initiator;
       purpose = session .purpose;
       machine = machine;
       participants = participants;
-      lengths = set (session .lengths) k 0;
-      delivered = session .delivered + 1;
+      lengths = lengths;
+      delivered = delivered;
     }
+
+-- the session after the message on k's strand was delivered: the strand is empty, and the delivery counted
+abbrev pub deliveredOn : Session → ℕ → Initiator → List Participant → Session
+deliveredOn session k machine participants =
+    onward session machine participants (set (session .lengths) k 0) (session .delivered + 1)
 
 -- what participant k sends goes to the initiator, so it is put on k's own strand
 unfoldable pub onStrand : ℕ → ℕ → Outgoing → Outgoing
@@ -78,22 +83,22 @@ onStrand k initiator o =
     pick (goesTo o initiator) (onlyTo (o .head) k (row (o .news) initiator)) (nothing (o .head))
 
 -- participant k takes the step that the message asks for
-unfoldable pub deliverDown : Shape → List ℕ → List ℕ → Session → ℕ → List ℕ → Turned
-deliverDown shape sent received session k s =
+unfoldable pub deliverDown : Tables → Session → ℕ → List ℕ → Turned
+deliverDown tables session k s =
     let p : Participant = participantAt session k in
     let next : ParticipantStep =
-    participant.step (ownOf shape sent received k) p (participant-calls.readBy (shape .n) p s) in
+    participant.step (ownOf tables k) p (participant-calls.readBy (tables .shape .n) p s) in
     record {
       session = deliveredOn session k (session .machine) (set (session .participants) k (next .state));
       outgoing = onStrand k (initiatorOf session) (next .outgoing);
     }
 
 -- the initiator does; what it sends to each participant is put on that one's strand
-unfoldable pub deliverUp : Shape → List ℕ → List ℕ → Session → ℕ → List ℕ → Turned
-deliverUp shape sent received session k s =
+unfoldable pub deliverUp : Tables → Session → ℕ → List ℕ → Turned
+deliverUp tables session k s =
     let next : InitiatorStep =
-    initiator.step (ownOf shape sent received (initiatorOf session)) (session .machine)
-    (initiator-calls.readBy (shape .n) (session .machine) s) in
+    initiator.step (ownOf tables (initiatorOf session)) (session .machine)
+    (initiator-calls.readBy (tables .shape .n) (session .machine) s) in
     record { session = deliveredOn session k (next .state) (session .participants); outgoing = next .outgoing }
 
 -- nothing is delivered
@@ -101,23 +106,16 @@ abbrev pub asBefore : Session → Turned
 asBefore session = record { session = session; outgoing = nothing (otherHead (session .purpose) (session .initiator)) }
 
 -- "A turn names a participant and delivers that message", by what the strand holds
-abbrev pub deliver : Shape → List ℕ → List ℕ → Session → ℕ → List ℕ → Waiting → Turned
-deliver shape sent received session k s Nothing = asBefore session
-deliver shape sent received session k s Asking = deliverDown shape sent received session k s
-deliver shape sent received session k s Ending = deliverDown shape sent received session k s
-deliver shape sent received session k s Report = deliverUp shape sent received session k s
-deliver shape sent received session k s Stray = asBefore session
+abbrev pub deliver : Tables → Session → ℕ → List ℕ → Waiting → Turned
+deliver tables session k s Nothing = asBefore session
+deliver tables session k s Asking = deliverDown tables session k s
+deliver tables session k s Ending = deliverDown tables session k s
+deliver tables session k s Report = deliverUp tables session k s
+deliver tables session k s Stray = asBefore session
 
 -- "the replies are then waiting"
 unfoldable pub withPosted : Turned → Session
 withPosted turned =
     let session : Session = turned .session in
-    record {
-      n = session .n;
-      initiator = session .initiator;
-      purpose = session .purpose;
-      machine = session .machine;
-      participants = session .participants;
-      lengths = lengthsPosted (turned .outgoing) (session .lengths);
-      delivered = session .delivered;
-    }
+    onward session (session .machine) (session .participants) (lengthsPosted (turned .outgoing) (session .lengths))
+    (session .delivered)

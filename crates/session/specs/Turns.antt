@@ -4,7 +4,7 @@ use mathlib.Core.Bool.{Bool, not, _&&_, _||_}
 use mathlib.Core.List.{List, [], _∷_}
 use Prim.Native.Nat.{ℕ, _+_, _-_}
 use lib.Dec.{eqb}
-use Rattle.book.specs.declared.Shape.{Shape}
+use Rattle.book.specs.Lent.{Tables}
 use Rattle.book.specs.declared.Process.{Process}
 use Rattle.book.specs.Bounds.{mostProcesses}
 use Rattle.lists.specs.Over.{allTo}
@@ -20,20 +20,20 @@ pub record Ongoing : Type 0 where
   pub strands : List ℕ
 
 -- as a start leaves them
-abbrev pub started : Shape → List ℕ → List ℕ → Process → ℕ → List ℕ → Ongoing
-started shape sent received initiator purpose strands =
+abbrev pub started : Tables → Process → ℕ → List ℕ → Ongoing
+started tables initiator purpose strands =
     record {
-      session = sessionStarted shape sent received initiator purpose strands;
-      strands = strandsStarted shape sent received initiator purpose strands;
+      session = sessionStarted tables initiator purpose strands;
+      strands = strandsStarted tables initiator purpose strands;
     }
 
-module _ (shape : Shape) (sent received : List ℕ) where
+module _ (tables : Tables) where
   -- as a turn leaves them
   abbrev pub afterTurn : Ongoing → Process → Ongoing
   afterTurn o p =
       record {
-        session = sessionAfter shape sent received (o .session) p (o .strands);
-        strands = strandsAfter shape sent received (o .session) p (o .strands);
+        session = sessionAfter tables (o .session) p (o .strands);
+        strands = strandsAfter tables (o .session) p (o .strands);
       }
 
   -- after a list of turns
@@ -42,7 +42,7 @@ module _ (shape : Shape) (sent received : List ℕ) where
   afterTurns o (p ∷ turns) = afterTurns (afterTurn o p) turns
 
   abbrev pub turnAccepted : Ongoing → Process → Bool
-  turnAccepted o p = eqb (turnQuestion shape sent received (o .session) p (o .strands)) 0
+  turnAccepted o p = eqb (turnQuestion tables (o .session) p (o .strands)) 0
 
   -- "The messages delivered are the accepted turns of the list"
   unfoldable pub acceptedTurns : Ongoing → List Process → ℕ
@@ -54,7 +54,7 @@ module _ (shape : Shape) (sent received : List ℕ) where
   bringsLast o p =
       let k : ℕ = p .0 - 1 in
       let session : Session = o .session in
-      isReport (held (shape .n) session k (waitingBytes (shape .n) session (o .strands) k))
+      isReport (held (tables .shape .n) session k (waitingBytes (tables .shape .n) session (o .strands) k))
       && allTo mostProcesses (λ q. not (flag (session .machine .awaited) q) || eqb q k)
 
   -- "A round is one wait of at least one report, counted as the wait begins": with an accepted turn one begins when it brings

@@ -1,6 +1,6 @@
 -- The place of an absent process: what each test leaves to the later ones.
 use mathlib.Core.Path.{_≡_, refl, sym, ap, _∙_}
-use mathlib.Core.Bool.{Bool, true, false, _&&_}
+use mathlib.Core.Bool.{Bool, true, false, _&&_, and-false}
 use mathlib.Core.List.{List}
 use Prim.Native.Nat.{ℕ}
 use borrow.Author.Tests.{eq-eqb, ne-eqb}
@@ -69,11 +69,7 @@ module _ {all : Bool} (t rest : Bool) where
 
 module _ (p : Participant) (waits : ℕ) where
   pub something-waits : (waits ≡ 0 → ⊥) → false ≡ (isAbsent p && eqb waits 0)
-  something-waits h = rw (ne-eqb waits 0 h) (go (isAbsent p))
-    where
-      go : (t : Bool) → false ≡ (t && false)
-      go true = refl
-      go false = refl
+  something-waits h = rw (ne-eqb waits 0 h) (sym (and-false (isAbsent p)))
 
   pub not-absent : isAbsent p ≡ false → false ≡ (isAbsent p && eqb waits 0)
   not-absent h = rw h

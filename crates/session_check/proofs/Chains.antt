@@ -1,32 +1,7 @@
--- Tests put together, and what a call said.
-use mathlib.Core.Path.{_≡_, refl, sym, _∙_}
-use mathlib.Core.Bool.{Bool, true, false, not, _&&_, _||_}
-use borrow.Author.Tests.{not-true, not-false}
-use Rattle.lists.specs.Pick.{pick}
+-- Three tests in a row, and four.
+use mathlib.Core.Path.{_≡_, sym, _∙_}
+use mathlib.Core.Bool.{Bool, true, false, _&&_, and-true, and-false}
 
--- a call's answer, where the code tests that it is no
-pub told-no : {t f : Bool} → t ≡ f → not t ≡ true → f ≡ false
-told-no {t} e h = sym e ∙ not-true t h
-
-pub told-yes : {t f : Bool} → t ≡ f → not t ≡ false → f ≡ true
-told-yes {t} e h = sym e ∙ not-false t h
-
--- a test that is put only where another is not passed
-module _ (e t : Bool) where
-  pub not-put : e ≡ true → (e || t) ≡ true
-  not-put h = rw h
-
-  pub put-yes : t ≡ true → (e || t) ≡ true
-  put-yes h = go e
-    where
-      go : (b : Bool) → (b || t) ≡ true
-      go true = refl
-      go false = h
-
-  pub put-no : e ≡ false → t ≡ false → (e || t) ≡ false
-  put-no h k = rw (h, k)
-
--- three in a row, and four
 module _ (a b c : Bool) where
   pub first-of-three : a ≡ false → false ≡ (a && (b && c))
   first-of-three h = rw h
@@ -52,24 +27,8 @@ module _ (a b c d : Bool) where
 
   -- the last fails, whatever the third says
   pub last-of-four : a ≡ true → b ≡ true → d ≡ false → false ≡ (a && (b && (c && d)))
-  last-of-four h k l = rw (h, k, l) (go c)
-    where
-      go : (t : Bool) → false ≡ (t && false)
-      go true = refl
-      go false = refl
+  last-of-four h k l = rw (h, k, l) (sym (and-false c))
 
   -- the last passes, and the third decides
   pub but-last-of-four : {r : Bool} → a ≡ true → b ≡ true → d ≡ true → r ≡ c → r ≡ (a && (b && (c && d)))
-  but-last-of-four h k l e = rw (h, k, l) (e ∙ go c)
-    where
-      go : (t : Bool) → t ≡ (t && true)
-      go true = refl
-      go false = refl
-
--- a choice
-module _ {A : Type 0} (t : Bool) (a b : A) where
-  pub pick-yes : t ≡ true → a ≡ pick t a b
-  pick-yes h = rw h
-
-  pub pick-no : t ≡ false → b ≡ pick t a b
-  pick-no h = rw h
+  but-last-of-four h k l e = rw (h, k, l) (e ∙ sym (and-true c))

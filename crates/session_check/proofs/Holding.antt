@@ -33,7 +33,7 @@ use Rattle.session.specs.declared.Waiting.the-variants.{Nothing, Asking, Ending
 use Rattle.session.specs.Workers.{initiatorOf, participantAt}
 use Rattle.session.specs.Held.{senderIn, endsSearch, heldDown, heldUp, isReport, waitingBytes, held}
 use Rattle.session_check.specs.Parts.{bytesOn, heldOf, Told}
-use Rattle.session_check.proofs.Chains.{pick-yes, pick-no}
+use Rattle.lists.proofs.Pick.{pick-yes, pick-no}
 
 pub ends-yes : (m : Message) → m .head .purpose ≡ 2 → eqb (m .head .purpose) 2 ≡ endsSearch m
 ends-yes m h = rw (eq-eqb (m .head .purpose) 2 h)

@@ -1,34 +1,23 @@
 -- Question 13 of the machines of a session: what each test leaves to the later ones.
-use mathlib.Core.Path.{_≡_, refl, ap, _∙_}
+use mathlib.Core.Path.{_≡_, ap, _∙_}
 use mathlib.Core.Bool.{Bool, true, false}
-use mathlib.Core.List.{List}
-use Prim.Native.Nat.{ℕ, suc, _+_, _-_, _≤_}
+use Prim.Native.Nat.{ℕ, suc, _+_, _-_}
 use native.Mathlib.Numerals.{add-one}
 use native.Mathlib.Omega.{arith}
 use borrow.Author.Tests.{eq-eqb, ne-eqb}
-use lib.ListN.{length}
 use lib.Dec.{eqb}
-use Rattle.book.specs.declared.Shape.{Shape}
-use Rattle.book.specs.declared.TableRows.{TableRows}
+use Rattle.book.specs.Lent.{Tables}
 use Rattle.machine.specs.Own.{ownOf}
-use Rattle.machine.specs.Given.{Given}
-use Rattle.machine.proofs.Calls.{given-of}
 use Rattle.participant.specs.declared.Participant.{Participant}
 use Rattle.participant.specs.Fits as participant
 use Rattle.initiator.specs.declared.Initiator.{Initiator}
 use Rattle.initiator.specs.Fits as initiator
-use Rattle.session_check.specs.Parts.{TablesGiven, initiatorOn, machineFits}
+use Rattle.session_check.specs.Parts.{initiatorOn, machineFits}
 use Rattle.session_check.proofs.Chains.{first-of-three, second-of-three, third-of-three, first-of-four, second-of-four, third-of-four, fourth-of-four}
-
--- what a machine of a process that there is is given
-pub given-to : (rows : TableRows) (sent received : List ℕ) (me : ℕ) → length (rows .shape .counts) ≡ 16 → TablesGiven rows sent received
-    → (1 ≤ me) × (me ≤ rows .shape .n) → Given rows sent received me
-given-to rows sent received me sixteen given named =
-    given-of (rows .shape) sent received rows me sixteen (given .accepted) refl (given .starts) named
 
 -- ---- the initiator's
 
-module _ (shape : Shape) (sent received : List ℕ) (of purpose : ℕ) (machine : Initiator) where
+module _ (t : Tables) (of purpose : ℕ) (machine : Initiator) where
   abbrev sameMe : Bool
   sameMe = eqb (machine .me .0) of
 
@@ -36,10 +25,10 @@ module _ (shape : Shape) (sent received : List ℕ) (of purpose : ℕ) (machine 
   samePurpose = eqb (machine .purpose) purpose
 
   abbrev machineOn : Bool
-  machineOn = initiator.fits (ownOf shape sent received (of - 1)) machine
+  machineOn = initiator.fits (ownOf t (of - 1)) machine
 
   abbrev On : Bool → Type 0
-  On r = r ≡ initiatorOn shape sent received of purpose machine
+  On r = r ≡ initiatorOn t of purpose machine
 
   pub other-initiator : (machine .me .0 ≡ of → ⊥) → On false
   other-initiator h = first-of-three sameMe samePurpose machineOn (ne-eqb (machine .me .0) of h)
@@ -49,14 +38,14 @@ module _ (shape : Shape) (sent received : List ℕ) (of purpose : ℕ) (machine 
     other-purpose h = second-of-three sameMe samePurpose machineOn (eq-eqb (machine .me .0) of me) (ne-eqb (machine .purpose) purpose h)
 
     pub initiator-on : {r : Bool} → machine .purpose ≡ purpose
-        → r ≡ initiator.fits (ownOf shape sent received (machine .me .0 - 1)) machine → On r
+        → r ≡ initiator.fits (ownOf t (machine .me .0 - 1)) machine → On r
     initiator-on h e =
         third-of-three sameMe samePurpose machineOn (eq-eqb (machine .me .0) of me) (eq-eqb (machine .purpose) purpose h)
-        (e ∙ ap (λ (j : ℕ). initiator.fits (ownOf shape sent received (j - 1)) machine) me)
+        (e ∙ ap (λ (j : ℕ). initiator.fits (ownOf t (j - 1)) machine) me)
 
 -- ---- a participant's
 
-module _ (shape : Shape) (sent received : List ℕ) (of purpose : ℕ) (p : Participant) (k : ℕ) where
+module _ (t : Tables) (of purpose : ℕ) (p : Participant) (k : ℕ) where
   abbrev isMe : Bool
   isMe = eqb (p .me .0) (suc k)
 
@@ -67,10 +56,10 @@ module _ (shape : Shape) (sent received : List ℕ) (of purpose : ℕ) (p : Part
   isFor = eqb (p .purpose) purpose
 
   abbrev isOn : Bool
-  isOn = participant.fits (ownOf shape sent received k) p
+  isOn = participant.fits (ownOf t k) p
 
   abbrev Fits : Bool → Type 0
-  Fits r = r ≡ machineFits shape sent received of purpose p k
+  Fits r = r ≡ machineFits t of purpose p k
 
   pub other-place : (p .me .0 ≡ k + 1 → ⊥) → Fits false
   other-place h = first-of-four isMe isIts isFor isOn (ne-eqb (p .me .0) (suc k) (λ e. h (e ∙ omega arith)))
@@ -85,9 +74,9 @@ module _ (shape : Shape) (sent received : List ℕ) (of purpose : ℕ) (p : Part
     pub other-aim : p .initiator .0 ≡ of → (p .purpose ≡ purpose → ⊥) → Fits false
     other-aim its h = third-of-four isMe isIts isFor isOn its-place (eq-eqb (p .initiator .0) of its) (ne-eqb (p .purpose) purpose h)
 
-    pub machine-on : {r : Bool} → p .initiator .0 ≡ of → p .purpose ≡ purpose → r ≡ participant.fits (ownOf shape sent received (p .me .0 - 1)) p
+    pub machine-on : {r : Bool} → p .initiator .0 ≡ of → p .purpose ≡ purpose → r ≡ participant.fits (ownOf t (p .me .0 - 1)) p
         → Fits r
     machine-on its aim e =
         let place : p .me .0 - 1 ≡ k = omega arith in
         fourth-of-four isMe isIts isFor isOn its-place (eq-eqb (p .initiator .0) of its) (eq-eqb (p .purpose) purpose aim)
-        (e ∙ ap (λ (j : ℕ). participant.fits (ownOf shape sent received j) p) place)
+        (e ∙ ap (λ (j : ℕ). participant.fits (ownOf t j) p) place)

@@ -1,16 +1,13 @@
--- What the functions that put questions 10, 11 and 13 to a session are given, and what they promise one another: the session's
--- definitions over the parts that each of them looks at.
+-- What the functions that put questions 10, 11 and 13 to a session promise one another: the session's definitions over the parts
+-- that each of them looks at.
 use mathlib.Core.Path.{_≡_}
 use mathlib.Core.Bool.{Bool, not, _&&_, _||_}
 use mathlib.Core.List.{List}
 use Prim.Native.Nat.{ℕ, suc, _+_, _-_}
 use lib.ListN.{length, take, drop, getD}
 use lib.Dec.{leb, eqb}
-use Rattle.book.specs.declared.TableRows.{TableRows}
-use Rattle.book.specs.declared.Shape.{Shape}
+use Rattle.book.specs.Lent.{Tables}
 use Rattle.book.specs.Bounds.{mostProcesses}
-use Rattle.book.specs.View.{firstRows}
-use Rattle.book.specs.Check.{tablesQuestion}
 use Rattle.lists.specs.Over.{allTo}
 use Rattle.lists.specs.Pick.{pick}
 use Rattle.book.specs.Names.{isPurpose}
@@ -29,11 +26,6 @@ use Rattle.session.specs.Workers.{isEnded}
 use Rattle.session.specs.Held.{senderIn, heldDown, heldUp, isAwaited, isEnding, isReport, isStray}
 use Rattle.session.specs.Fits.{isAbsent}
 
--- the rows of accepted tables
-pub record TablesGiven (rows : TableRows) (sent received : List ℕ) : Type 0 where
-  pub accepted : tablesQuestion (rows .shape) sent received ≡ 0
-  pub starts : rows .first ≡ firstRows (rows .shape .counts)
-
 -- the machine at a place
 abbrev pub at : List Participant → ℕ → Participant
 at participants k = getD participants k noParticipant
@@ -48,16 +40,16 @@ abbrev pub allPurposes : List Participant → Bool
 allPurposes participants = allTo mostProcesses (λ k. isAbsent (at participants k) || isPurpose (at participants k .purpose))
 
 -- 13 of the initiator's machine
-abbrev pub initiatorOn : Shape → List ℕ → List ℕ → ℕ → ℕ → Initiator → Bool
-initiatorOn shape sent received of purpose machine =
+abbrev pub initiatorOn : Tables → ℕ → ℕ → Initiator → Bool
+initiatorOn tables of purpose machine =
     eqb (machine .me .0) of
-    && (eqb (machine .purpose) purpose && initiator.fits (ownOf shape sent received (of - 1)) machine)
+    && (eqb (machine .purpose) purpose && initiator.fits (ownOf tables (of - 1)) machine)
 
 -- 13 of a participant's machine at place k
-abbrev pub machineFits : Shape → List ℕ → List ℕ → ℕ → ℕ → Participant → ℕ → Bool
-machineFits shape sent received initiator purpose p k =
+abbrev pub machineFits : Tables → ℕ → ℕ → Participant → ℕ → Bool
+machineFits tables initiator purpose p k =
     eqb (p .me .0) (suc k)
-    && (eqb (p .initiator .0) initiator && (eqb (p .purpose) purpose && fits (ownOf shape sent received k) p))
+    && (eqb (p .initiator .0) initiator && (eqb (p .purpose) purpose && fits (ownOf tables k) p))
 
 -- and of its strand: is it awaited, has the initiator ended, how far is the participant, and what does the strand hold
 abbrev pub heldFits : Bool → Bool → Stage → Waiting → Bool
@@ -88,17 +80,17 @@ abbrev pub Told : ℕ → ℕ → Participant → ℕ → List ℕ → Waiting �
 Told n of p k s w = (machine : Initiator) → withAbove n machine s w ≡ heldOf n of p machine k s
 
 -- 13 of the place of process k
-unfoldable pub placeOn : Shape → List ℕ → List ℕ → ℕ → ℕ → Participant → Initiator → Bool → Bool → ℕ → List ℕ → ℕ → Bool
-placeOn shape sent received of purpose p machine awaited ended waits strands k =
-    pick (isParticipant (shape .n) (of - 1) k)
-    (machineFits shape sent received of purpose p k
-    && (lengthFits (shape .n) (of - 1) k waits (length strands)
-    && heldFits awaited ended (p .stage) (heldOf (shape .n) of p machine k (bytesOn (shape .n) (of - 1) waits strands k))))
+unfoldable pub placeOn : Tables → ℕ → ℕ → Participant → Initiator → Bool → Bool → ℕ → List ℕ → ℕ → Bool
+placeOn tables of purpose p machine awaited ended waits strands k =
+    pick (isParticipant (tables .shape .n) (of - 1) k)
+    (machineFits tables of purpose p k
+    && (lengthFits (tables .shape .n) (of - 1) k waits (length strands)
+    && heldFits awaited ended (p .stage) (heldOf (tables .shape .n) of p machine k (bytesOn (tables .shape .n) (of - 1) waits strands k))))
     (isAbsent p && eqb waits 0)
 
 -- and what is told of it: stray if it does not fit
-abbrev pub PlaceTold : Shape → List ℕ → List ℕ → ℕ → ℕ → Participant → Bool → Bool → ℕ → List ℕ → ℕ → Waiting → Type 0
-PlaceTold shape sent received of purpose p awaited ended waits strands k w =
+abbrev pub PlaceTold : Tables → ℕ → ℕ → Participant → Bool → Bool → ℕ → List ℕ → ℕ → Waiting → Type 0
+PlaceTold tables of purpose p awaited ended waits strands k w =
     (machine : Initiator)
-    → not (isStray (withAbove (shape .n) machine (bytesOn (shape .n) (of - 1) waits strands k) w))
-    ≡ placeOn shape sent received of purpose p machine awaited ended waits strands k
+    → not (isStray (withAbove (tables .shape .n) machine (bytesOn (tables .shape .n) (of - 1) waits strands k) w))
+    ≡ placeOn tables of purpose p machine awaited ended waits strands k

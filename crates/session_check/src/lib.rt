@@ -16,13 +16,15 @@ ghost use mathlib.Core.Bool.{true, false, not, _&&_};
 ghost use Prim.Native.Nat.{_+_, _-_, _≤_, _<_};
 ghost use lib.ListN.{length};
 ghost use lib.Dec.{eqb};
+ghost use Rattle.book.specs.Lent.{lent};
+ghost use Rattle.book.specs.Accepted.{AcceptedRows};
 ghost use Rattle.book.specs.Bounds.{mostProcesses};
 ghost use Rattle.lists.specs.Over.{allTo};
 ghost use Rattle.strands.specs.Strands.{strandStart};
 ghost use Rattle.session.specs.Workers.{isEnded};
 ghost use Rattle.session.specs.Held.{isReport, isStray};
 ghost use Rattle.session.specs.Fits.{sessionNamed, sessionPurposes, isAbsent, isBefore, placeFits, sessionFits};
-ghost use Rattle.session_check.specs.Parts.{TablesGiven, allNamed, allPurposes, initiatorOn, machineFits, lengthFits, heldFits, PlaceTold};
+ghost use Rattle.session_check.specs.Parts.{allNamed, allPurposes, initiatorOn, machineFits, lengthFits, heldFits, PlaceTold};
 
 // Is it before the invitation?
 fn is_before(stage: Stage) -> bool
@@ -143,9 +145,9 @@ fn initiator_fits(
     purpose: u64,
     machine: Initiator,
 ) -> bool
-    requires { ⌜ TablesGiven rows (now sent) (now received) ⌝ }
+    requires { ⌜ AcceptedRows rows (now sent) (now received) ⌝ }
     requires { ⌜ (1 ≤ initiator .0) × (initiator .0 ≤ rows .shape .n) ⌝ }
-    ensures { λ r. ⌜ r ≡ initiatorOn (rows .shape) (now (sent .entry)) (now (received .entry)) (initiator .0) purpose machine ⌝ }
+    ensures { λ r. ⌜ r ≡ initiatorOn (lent (rows .shape) (now (sent .entry)) (now (received .entry))) (initiator .0) purpose machine ⌝ }
 {
     let me = machine.me;
     if me.0 != initiator.0 {
@@ -167,9 +169,9 @@ fn machine_fits(
     p: Participant,
     k: usize,
 ) -> bool
-    requires { ⌜ TablesGiven rows (now sent) (now received) ⌝ }
+    requires { ⌜ AcceptedRows rows (now sent) (now received) ⌝ }
     requires { ⌜ k < rows .shape .n ⌝ }
-    ensures { λ r. ⌜ r ≡ machineFits (rows .shape) (now (sent .entry)) (now (received .entry)) (initiator .0) purpose p k ⌝ }
+    ensures { λ r. ⌜ r ≡ machineFits (lent (rows .shape) (now (sent .entry)) (now (received .entry))) (initiator .0) purpose p k ⌝ }
 {
     let me = p.me;
     let its = p.initiator;
@@ -252,9 +254,9 @@ fn place_holds(
     strands: &[u8],
     k: usize,
 ) -> Waiting
-    requires { ⌜ TablesGiven rows (now sent) (now received) ⌝ }
+    requires { ⌜ AcceptedRows rows (now sent) (now received) ⌝ }
     requires { ⌜ (1 ≤ initiator .0) × (k < 16) ⌝ }
-    ensures { λ r. ⌜ PlaceTold (rows .shape) (now (sent .entry)) (now (received .entry)) (initiator .0) purpose p awaited ended waits (now (strands .entry)) k r ⌝ }
+    ensures { λ r. ⌜ PlaceTold (lent (rows .shape) (now (sent .entry)) (now (received .entry))) (initiator .0) purpose p awaited ended waits (now (strands .entry)) k r ⌝ }
     ensures { λ r. ⌜ (isReport r ≡ true → strandStart (rows .shape .n) (initiator .0 - 1) k + waits ≤ length (now (strands .entry))) ⌝ }
 {
     let shape = rows.shape;
@@ -284,10 +286,10 @@ fn places_fit(
     received: &[Counter],
     strands: &[u8],
 ) -> bool
-    requires { ⌜ TablesGiven rows (now sent) (now received) ⌝ }
+    requires { ⌜ AcceptedRows rows (now sent) (now received) ⌝ }
     requires { ⌜ 1 ≤ session .initiator .0 ⌝ }
     requires { ⌜ session .machine .n ≡ rows .shape .n ⌝ }
-    ensures { λ r. ⌜ r ≡ allTo mostProcesses (placeFits (rows .shape) (now (sent .entry)) (now (received .entry)) session (now (strands .entry))) ⌝ }
+    ensures { λ r. ⌜ r ≡ allTo mostProcesses (placeFits (lent (rows .shape) (now (sent .entry)) (now (received .entry))) session (now (strands .entry))) ⌝ }
 {
     let shape = rows.shape;
     let initiator = session.initiator;
@@ -333,9 +335,9 @@ pub fn fits(
     received: &[Counter],
     strands: &[u8],
 ) -> bool
-    requires { ⌜ TablesGiven rows (now sent) (now received) ⌝ }
+    requires { ⌜ AcceptedRows rows (now sent) (now received) ⌝ }
     requires { ⌜ (1 ≤ session .initiator .0) × (session .initiator .0 ≤ rows .shape .n) ⌝ }
-    ensures { λ r. ⌜ r ≡ sessionFits (rows .shape) (now (sent .entry)) (now (received .entry)) session (now (strands .entry)) ⌝ }
+    ensures { λ r. ⌜ r ≡ sessionFits (lent (rows .shape) (now (sent .entry)) (now (received .entry))) session (now (strands .entry)) ⌝ }
 {
     let shape = rows.shape;
     let initiator = session.initiator;
@@ -346,7 +348,7 @@ pub fn fits(
     if !initiator_fits(rows, sent, received, initiator, session.purpose, machine) {
         return false;
     }
-    if machine::COUNT_LIMIT <= session.delivered {
+    if machine::TALLY_LIMIT <= session.delivered {
         return false;
     }
     places_fit(session, rows, sent, received, strands)

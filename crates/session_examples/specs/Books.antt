@@ -6,9 +6,9 @@ use Rattle.book.specs.declared.Checkpoint.{Checkpoint}
 use Rattle.book.specs.Bounds.{entries}
 use Rattle.finder.specs.Line.{checkpoints}
 
--- the tables that a read is lent
-abbrev pub lent : List ℕ
-lent = replicate entries 0
+-- each of the tables that a read is lent
+abbrev pub blank : List ℕ
+blank = replicate entries 0
 
 -- a set of checkpoints, absent processes zero
 abbrev pub setOf : List ℕ → List Checkpoint

@@ -2,16 +2,15 @@
 use mathlib.Core.Bool.{Bool, false}
 use mathlib.Core.List.{List}
 use Prim.Native.Nat.{ℕ}
-use Rattle.book.specs.declared.Shape.{Shape}
-use Rattle.book.specs.declared.Process.{Process}
+use Rattle.book.specs.Lent.{Tables}
 use Rattle.book.specs.declared.Checkpoint.{Checkpoint}
-use Rattle.book.specs.Read.{shapeRead, sentRead, receivedRead}
+use Rattle.book.specs.Read.{tablesRead}
 use Rattle.finder.specs.Line.{checkpoints}
 use Rattle.session.specs.declared.Session.{Session}
 use Rattle.session.specs.Workers.{standsOn}
 use Rattle.demand3.specs.Statement.{messageWaits, someoneGoesOn}
 use Rattle.searches.specs.Lowest.{searched}
-use Rattle.session_examples.specs.Books.{lent, setOf}
+use Rattle.session_examples.specs.Books.{blank, setOf}
 
 pub record Outcome : Type 0 where
   -- where each worker stands, absent processes zero
@@ -36,9 +35,8 @@ outcomeOf n s =
 -- turn by turn, on strands of bytes
 abbrev pub searchedIn : List ℕ → ℕ → Outcome
 searchedIn book initiator =
-    let shape : Shape = shapeRead book lent lent in
-    let by : Process = record { 0 = initiator } in
-    outcomeOf (shape .n) (searched shape (sentRead book lent lent) (receivedRead book lent lent) by 3 .session)
+    let tables : Tables = tablesRead book blank blank in
+    outcomeOf (tables .shape .n) (searched tables (record { 0 = initiator }) 3 .session)
 
 -- everybody has ended on this line, after so many rounds and messages, and nothing waits
 abbrev pub endedOn : List ℕ → ℕ → ℕ → Outcome

@@ -3,15 +3,15 @@ use Prim.Native.Nat.{_≤_}
 use lib.ListN.{length, replicate}
 use Rattle.strands.specs.Strands.{roomForAll}
 use Rattle.demand3.specs.Statement.{Beginning, IsAccepted, Searches, shapeLeft}
-use Rattle.session_examples.specs.Books.{lent, k1}
+use Rattle.session_examples.specs.Books.{blank, k1}
 
 -- K example 1, searched by process 1 with purpose 3, on strands with room for all messages
 abbrev pub realBook : Beginning
 realBook =
     record {
       bytes = k1;
-      sent = lent;
-      received = lent;
+      sent = blank;
+      received = blank;
       initiator = record { 0 = 1 };
       purpose = 3;
       strands = replicate (roomForAll 3) 0;

@@ -12,7 +12,7 @@ use Rattle.book.specs.declared.Process.{Process}
 use Rattle.lists.proofs.Over.{all-out}
 use Rattle.matrix.specs.Matrix.{asRow}
 use Rattle.book.specs.Names.{isPurpose}
-use Rattle.machine.specs.Named.{participantNamed, isParticipant, countLimit}
+use Rattle.machine.specs.Named.{participantNamed, isParticipant, tallyLimit}
 use Rattle.lists.proofs.Tests.{or-unless}
 use Rattle.machine_laws.proofs.Rows.{same-self}
 use Rattle.participant.specs.declared.Participant.{Participant}
@@ -70,7 +70,7 @@ module _ (g : Search) (is : IsSearch g) (s : Session) (placed : Placed g s) wher
   lead-is : initiatorOf s ≡ lead g
   lead-is = ap (λ (q : Process). q .0 - 1) (placed .leader)
 
-  lead-fits : initiatorFits (g .shape) (g .sent) (g .received) s ≡ true
+  lead-fits : initiatorFits (g .tables) s ≡ true
   unfolding initiatorFits
   lead-fits =
       rw (
@@ -79,7 +79,7 @@ module _ (g : Search) (is : IsSearch g) (s : Session) (placed : Placed g s) wher
       )
       (subst (λ (j : ℕ). initiator.fits (ownIn g j) (s .machine) ≡ true) (sym lead-is) (placed .machine-fits))
 
-  part-fits : (k : ℕ) → isPart g k ≡ true → participantFits (g .shape) (g .sent) (g .received) s k ≡ true
+  part-fits : (k : ℕ) → isPart g k ≡ true → participantFits (g .tables) s k ≡ true
   unfolding participantFits
   part-fits k there =
       let p : Part g k (participantAt s k) = placed .part k there in
@@ -109,18 +109,18 @@ module _ (g : Search) (is : IsSearch g) (s : Session) (placed : Placed g s) wher
         ])
 
     place-fits : ((k : ℕ) → isPart g k ≡ true → strandFits s k (held n s k (box k)) ≡ true)
-        → (k : ℕ) → k < 16 → placeFits (g .shape) (g .sent) (g .received) s strands k ≡ true
+        → (k : ℕ) → k < 16 → placeFits (g .tables) s strands k ≡ true
     unfolding placeFits
     place-fits each k h = go (isPart g k) refl
       where
-        go : (v : Bool) → isPart g k ≡ v → placeFits (g .shape) (g .sent) (g .received) s strands k ≡ true
+        go : (v : Bool) → isPart g k ≡ v → placeFits (g .tables) s strands k ≡ true
         go true there =
             rw (ap (λ (i : ℕ). isParticipant n i k) lead-is ∙ there, part-fits k there, within k there, laid k there .bytes) (each k there)
         go false none =
             let a = placed .absent k h none in
             rw (ap (λ (i : ℕ). isParticipant n i k) lead-is ∙ none) (absent-fits (participantAt s k) (lengthOn (s .lengths) k) (a .0) (a .1))
 
-    pub session-passes : s .delivered < countLimit
+    pub session-passes : s .delivered < tallyLimit
         → ((k : ℕ) → isPart g k ≡ true → strandFits s k (held n s k (box k)) ≡ true) → Passes g s strands
     unfolding sessionFits
     session-passes few each =
@@ -131,7 +131,7 @@ module _ (g : Search) (is : IsSearch g) (s : Session) (placed : Placed g s) wher
               rw (
                 eq-eqb (s .n) n (placed .processes),
                 lead-fits,
-                all-out 16 (placeFits (g .shape) (g .sent) (g .received) s strands) (place-fits each),
-                lt-ltb (s .delivered) countLimit few,
+                all-out 16 (placeFits (g .tables) s strands) (place-fits each),
+                lt-ltb (s .delivered) tallyLimit few,
               );
         }

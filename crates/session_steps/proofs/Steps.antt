@@ -1,13 +1,14 @@
 -- What the steps make, as the definitions have it.
-use mathlib.Core.Path.{_≡_, sym, ap, subst, _∙_}
+use mathlib.Core.Path.{_≡_, ap, _∙_}
 use mathlib.Core.Bool.{true, false}
 use mathlib.Core.List.{List, []}
 use Prim.Native.Nat.{ℕ, suc, _-_, _≤_}
 use native.Mathlib.Omega.{arith}
 use lib.ListN.{set, replicate}
+use Rattle.book.specs.Lent.{Tables, lent}
+use Rattle.book.specs.Accepted.{IsProcess}
 use Rattle.book.specs.declared.Count.{Count}
 use Rattle.book.specs.declared.Process.{Process}
-use Rattle.book.specs.declared.Shape.{Shape}
 use Rattle.book.specs.declared.TableRows.{TableRows}
 use Rattle.book.specs.InTurn.{ask}
 use Rattle.book.proofs.Questions.{then-none, asked-yes}
@@ -19,7 +20,6 @@ use Rattle.message.specs.Read.{messageRead}
 use Rattle.mail.specs.declared.Outgoing.{Outgoing}
 use Rattle.mail.specs.Outgoing.{goesTo, noLengths}
 use Rattle.machine.specs.Own.{ownOf}
-use Rattle.machine.specs.Given.{Given}
 use Rattle.machine.specs.Sends.{otherHead, nothing, onlyTo}
 use Rattle.participant.specs.declared.Participant.{Participant}
 use Rattle.participant.specs.declared.ParticipantStep.{ParticipantStep}
@@ -68,13 +68,13 @@ before-is session o e = λ i. record { session = session; outgoing = e i }
 
 -- ---- the start
 
-pub begun-is : (shape : Shape) (sent received : List ℕ) (initiator : Process) (purpose : ℕ) (next : InitiatorStep) (places : List Participant)
-    → next ≡ begin (ownOf shape sent received (initiator .0 - 1)) initiator purpose
-    → places ≡ tab 16 (placeAtStart shape [] [] initiator purpose)
+pub begun-is : (tables : Tables) (initiator : Process) (purpose : ℕ) (next : InitiatorStep) (places : List Participant)
+    → next ≡ begin (ownOf tables (initiator .0 - 1)) initiator purpose
+    → places ≡ tab 16 (placeAtStart (lent (tables .shape) [] []) initiator purpose)
     → _≡_ {A = Turned} (record {
       session =
           record {
-            n = shape .n;
+            n = tables .shape .n;
             initiator = initiator;
             purpose = purpose;
             machine = next .state;
@@ -83,13 +83,13 @@ pub begun-is : (shape : Shape) (sent received : List ℕ) (initiator : Process) 
             delivered = 0;
           };
       outgoing = next .outgoing;
-    }) (begun shape sent received initiator purpose)
+    }) (begun tables initiator purpose)
 unfolding begun
-begun-is shape sent received initiator purpose next places e f =
+begun-is tables initiator purpose next places e f =
     λ i. record {
       session =
           record {
-            n = shape .n;
+            n = tables .shape .n;
             initiator = initiator;
             purpose = purpose;
             machine = e i .state;
@@ -118,33 +118,31 @@ module _ (k initiator : ℕ) (o sent : Outgoing) where
 
 -- ---- a message is delivered to participant k
 
-pub given-down : (rows : TableRows) (sent received : List ℕ) (k initiator : ℕ) (p q : Participant) → p ≡ q → q .me .0 ≡ suc k
-    → q .initiator .0 ≡ initiator → Given rows sent received (suc k) → (1 ≤ initiator) × (initiator ≤ 16)
-    → Given rows sent received (p .me .0) × ((1 ≤ p .initiator .0) × (p .initiator .0 ≤ 16))
-given-down rows sent received k initiator p q e me its given there =
+pub names-down : (rows : TableRows) (k initiator : ℕ) (p q : Participant) → p ≡ q → q .me .0 ≡ suc k → q .initiator .0 ≡ initiator
+    → IsProcess rows (suc k) → (1 ≤ initiator) × (initiator ≤ 16)
+    → IsProcess rows (p .me .0) × ((1 ≤ p .initiator .0) × (p .initiator .0 ≤ 16))
+names-down rows k initiator p q e me its present there =
     let mine : p .me .0 ≡ suc k = ap (λ (t : Participant). t .me .0) e ∙ me in
-    let from : p .initiator .0 ≡ initiator = ap (λ (t : Participant). t .initiator .0) e ∙ its in (
-      subst (λ (j : ℕ). Given rows sent received j) (sym mine) given,
-      subst (λ (j : ℕ). (1 ≤ j) × (j ≤ 16)) (sym from) there,
-    )
+    let from : p .initiator .0 ≡ initiator = ap (λ (t : Participant). t .initiator .0) e ∙ its in
+    (omega (arith, mine, present), omega (arith, from, there))
 
-pub down-is : (shape : Shape) (sent received : List ℕ) (session : Session) (k : ℕ) (s : List ℕ) (p : Participant) (m : Message)
+pub down-is : (tables : Tables) (session : Session) (k : ℕ) (s : List ℕ) (p : Participant) (m : Message)
     (next : ParticipantStep) (after : Session) (o : Outgoing) → p ≡ participantAt session k → participantAt session k .me .0 ≡ suc k
-    → m ≡ messageRead (shape .n) (p .me .0) (p .initiator .0) s
-    → next ≡ participant.step (ownOf shape sent received (p .me .0 - 1)) p m
+    → m ≡ messageRead (tables .shape .n) (p .me .0) (p .initiator .0) s
+    → next ≡ participant.step (ownOf tables (p .me .0 - 1)) p m
     → after ≡ deliveredOn session k (session .machine) (set (session .participants) k (next .state))
     → o ≡ onStrand k (initiatorOf session) (next .outgoing)
-    → _≡_ {A = Turned} (record { session = after; outgoing = o }) (deliverDown shape sent received session k s)
+    → _≡_ {A = Turned} (record { session = after; outgoing = o }) (deliverDown tables session k s)
 unfolding deliverDown
-down-is shape sent received session k s p m next after o e me f g h r =
+down-is tables session k s p m next after o e me f g h r =
     let q : Participant = participantAt session k in
     let mine : q .me .0 - 1 ≡ k = omega (arith, me) in
-    let read : Message = messageRead (shape .n) (q .me .0) (q .initiator .0) s in
-    let is-read : m ≡ read = f ∙ ap (λ (t : Participant). messageRead (shape .n) (t .me .0) (t .initiator .0) s) e in
-    let at-its : next ≡ participant.step (ownOf shape sent received (q .me .0 - 1)) q read =
-    g ∙ (λ i. participant.step (ownOf shape sent received (e i .me .0 - 1)) (e i) (is-read i)) in
-    let is-next : next ≡ participant.step (ownOf shape sent received k) q read =
-    at-its ∙ ap (λ (j : ℕ). participant.step (ownOf shape sent received j) q read) mine in
+    let read : Message = messageRead (tables .shape .n) (q .me .0) (q .initiator .0) s in
+    let is-read : m ≡ read = f ∙ ap (λ (t : Participant). messageRead (tables .shape .n) (t .me .0) (t .initiator .0) s) e in
+    let at-its : next ≡ participant.step (ownOf tables (q .me .0 - 1)) q read =
+    g ∙ (λ i. participant.step (ownOf tables (e i .me .0 - 1)) (e i) (is-read i)) in
+    let is-next : next ≡ participant.step (ownOf tables k) q read =
+    at-its ∙ ap (λ (j : ℕ). participant.step (ownOf tables j) q read) mine in
     let is-after =
     h ∙ ap (λ (t : ParticipantStep). deliveredOn session k (session .machine) (set (session .participants) k (t .state))) is-next in
     let is-sent = r ∙ ap (λ (t : ParticipantStep). onStrand k (initiatorOf session) (t .outgoing)) is-next in
@@ -162,15 +160,15 @@ report-sender n machine s m most passes e =
     let there = sender-there n me me s m (asked-yes 13 formed first) e in
     (there .0, omega (arith, there))
 
-pub up-is : (shape : Shape) (sent received : List ℕ) (session : Session) (k : ℕ) (s : List ℕ) (m : Message) (next : InitiatorStep)
-    (after : Session) → session .machine .me .0 ≡ session .initiator .0 → m ≡ readBy (shape .n) (session .machine) s
-    → next ≡ initiator.step (ownOf shape sent received (session .machine .me .0 - 1)) (session .machine) m
+pub up-is : (tables : Tables) (session : Session) (k : ℕ) (s : List ℕ) (m : Message) (next : InitiatorStep)
+    (after : Session) → session .machine .me .0 ≡ session .initiator .0 → m ≡ readBy (tables .shape .n) (session .machine) s
+    → next ≡ initiator.step (ownOf tables (session .machine .me .0 - 1)) (session .machine) m
     → after ≡ deliveredOn session k (next .state) (session .participants)
-    → _≡_ {A = Turned} (record { session = after; outgoing = next .outgoing }) (deliverUp shape sent received session k s)
+    → _≡_ {A = Turned} (record { session = after; outgoing = next .outgoing }) (deliverUp tables session k s)
 unfolding deliverUp
-up-is shape sent received session k s m next after me f g h =
+up-is tables session k s m next after me f g h =
     let mine : session .machine .me .0 - 1 ≡ initiatorOf session = ap (λ (j : ℕ). j - 1) me in
-    let is-next : next ≡ initiator.step (ownOf shape sent received (initiatorOf session)) (session .machine) (readBy (shape .n) (session .machine) s) =
-    g ∙ (λ i. initiator.step (ownOf shape sent received (mine i)) (session .machine) (f i)) in
+    let is-next : next ≡ initiator.step (ownOf tables (initiatorOf session)) (session .machine) (readBy (tables .shape .n) (session .machine) s) =
+    g ∙ (λ i. initiator.step (ownOf tables (mine i)) (session .machine) (f i)) in
     let is-after = h ∙ ap (λ (t : InitiatorStep). deliveredOn session k (t .state) (session .participants)) is-next in
     λ i. record { session = is-after i; outgoing = is-next i .outgoing }

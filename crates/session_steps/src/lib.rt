@@ -13,9 +13,10 @@ use session::Turned;
 ghost use mathlib.Core.Path.{_≡_};
 ghost use mathlib.Core.List.{[]};
 ghost use Prim.Native.Nat.{suc, _-_, _≤_, _<_};
+ghost use Rattle.book.specs.Lent.{lent};
 ghost use Rattle.lists.specs.Over.{tab};
-ghost use Rattle.machine.specs.Named.{countLimit};
-ghost use Rattle.machine.specs.Given.{Given};
+ghost use Rattle.machine.specs.Named.{tallyLimit};
+ghost use Rattle.book.specs.Accepted.{AcceptedRows, IsProcess};
 ghost use Rattle.initiator.specs.Calls as calls;
 ghost use Rattle.session.specs.Workers.{participantAt};
 ghost use Rattle.session.specs.Calls.{noSession};
@@ -42,7 +43,7 @@ pub fn no_session() -> Session
 // The machine at process k's place before the invitation.
 fn first_place(shape: Shape, initiator: Process, purpose: u64, k: usize) -> Participant
     requires { ⌜ (1 ≤ initiator .0) × (k < 16) ⌝ }
-    ensures { λ r. ⌜ r ≡ placeAtStart shape [] [] initiator purpose k ⌝ }
+    ensures { λ r. ⌜ r ≡ placeAtStart (lent shape [] []) initiator purpose k ⌝ }
 {
     let counts = shape.counts;
     if !machine::is_participant(shape.n, initiator.0 - 1, k) {
@@ -55,7 +56,7 @@ fn first_place(shape: Shape, initiator: Process, purpose: u64, k: usize) -> Part
 // The machines at all places.
 fn first_places(shape: Shape, initiator: Process, purpose: u64) -> [Participant; 16]
     requires { ⌜ 1 ≤ initiator .0 ⌝ }
-    ensures { λ r. ⌜ r ≡ tab 16 (placeAtStart shape [] [] initiator purpose) ⌝ }
+    ensures { λ r. ⌜ r ≡ tab 16 (placeAtStart (lent shape [] []) initiator purpose) ⌝ }
 {
     let nobody = participant::no_participant();
     let mut places = [nobody; 16];
@@ -75,8 +76,8 @@ pub fn begin(
     initiator: Process,
     purpose: u64,
 ) -> Turned
-    requires { ⌜ Given rows (now sent) (now received) (initiator .0) ⌝ }
-    ensures { λ r. ⌜ r ≡ begun (rows .shape) (now (sent .entry)) (now (received .entry)) initiator purpose ⌝ }
+    requires { ⌜ AcceptedRows rows (now sent) (now received) × IsProcess rows (initiator .0) ⌝ }
+    ensures { λ r. ⌜ r ≡ begun (lent (rows .shape) (now (sent .entry)) (now (received .entry))) initiator purpose ⌝ }
 {
     let shape = rows.shape;
     let next = initiator::first_step(rows, sent, received, initiator, purpose);
@@ -103,7 +104,7 @@ fn delivered_on(
     machine: Initiator,
     participants: [Participant; 16],
 ) -> Session
-    requires { ⌜ (k < 16) × (session .delivered < countLimit) ⌝ }
+    requires { ⌜ (k < 16) × (session .delivered < tallyLimit) ⌝ }
     ensures { λ r. ⌜ r ≡ deliveredOn session k machine participants ⌝ }
 {
     let initiator = session.initiator;
@@ -144,12 +145,12 @@ pub fn deliver_down(
     k: usize,
     s: &[u8],
 ) -> Turned
-    requires { ⌜ Given rows (now sent) (now received) (suc k) ⌝ }
+    requires { ⌜ AcceptedRows rows (now sent) (now received) × IsProcess rows (suc k) ⌝ }
     requires { ⌜ participantAt session k .me .0 ≡ suc k ⌝ }
     requires { ⌜ participantAt session k .initiator .0 ≡ session .initiator .0 ⌝ }
     requires { ⌜ (1 ≤ session .initiator .0) × (session .initiator .0 ≤ 16) ⌝ }
-    requires { ⌜ (k < 16) × (session .delivered < countLimit) ⌝ }
-    ensures { λ r. ⌜ r ≡ deliverDown (rows .shape) (now (sent .entry)) (now (received .entry)) session k (now (s .entry)) ⌝ }
+    requires { ⌜ (k < 16) × (session .delivered < tallyLimit) ⌝ }
+    ensures { λ r. ⌜ r ≡ deliverDown (lent (rows .shape) (now (sent .entry)) (now (received .entry))) session k (now (s .entry)) ⌝ }
 {
     let shape = rows.shape;
     let mut participants = session.participants;
@@ -179,12 +180,12 @@ pub fn deliver_up(
     k: usize,
     s: &[u8],
 ) -> Turned
-    requires { ⌜ Given rows (now sent) (now received) (session .initiator .0) ⌝ }
+    requires { ⌜ AcceptedRows rows (now sent) (now received) × IsProcess rows (session .initiator .0) ⌝ }
     requires { ⌜ session .machine .me .0 ≡ session .initiator .0 ⌝ }
     requires { ⌜ calls.messageQuestion (rows .shape .n) (session .machine) (now s) ≡ 0 ⌝ }
-    requires { ⌜ session .machine .rounds < countLimit ⌝ }
-    requires { ⌜ (k < 16) × (session .delivered < countLimit) ⌝ }
-    ensures { λ r. ⌜ r ≡ deliverUp (rows .shape) (now (sent .entry)) (now (received .entry)) session k (now (s .entry)) ⌝ }
+    requires { ⌜ session .machine .rounds < tallyLimit ⌝ }
+    requires { ⌜ (k < 16) × (session .delivered < tallyLimit) ⌝ }
+    ensures { λ r. ⌜ r ≡ deliverUp (lent (rows .shape) (now (sent .entry)) (now (received .entry))) session k (now (s .entry)) ⌝ }
 {
     let shape = rows.shape;
     let machine = session.machine;

@@ -11,12 +11,12 @@ use Rattle.book.specs.declared.Process.{Process}
 use Rattle.book.specs.Bounds.{mark}
 use Rattle.lists.proofs.Tests.{and-both, both-and}
 use Rattle.line_theory.specs.Sets.{IsBook, IsLine}
-use Rattle.line_theory.proofs.Accepted.{accepted-size, accepted-is-book}
+use Rattle.line_theory.proofs.Accepted.{accepted-size, accepted-book}
 use Rattle.line_theory.proofs.Theorems.{line-is-line}
 use Rattle.book.specs.Names.{isNamed}
 use Rattle.machine.specs.Named.{participantNamed}
 use Rattle.machine_laws.specs.Own.{IsOwn}
-use Rattle.machine_laws.proofs.Theorems.{accepted-is-own}
+use Rattle.machine_laws.proofs.Theorems.{is-own}
 use Rattle.participant.specs.declared.Participant.{Participant}
 use Rattle.initiator.specs.Fits.{fits}
 use Rattle.session.specs.declared.Session.{Session}
@@ -27,7 +27,7 @@ use Rattle.session_theory.proofs.Invariant.{Part, Placed}
 
 module _ (g : Search) (is : IsSearch g) where
   sizes : (1 ≤ size g) × (size g ≤ 16)
-  sizes = accepted-size (g .shape) (g .sent) (g .received) (is .accepted)
+  sizes = accepted-size (is .accepted)
 
   pub some : 1 ≤ size g
   some = sizes .0
@@ -50,10 +50,10 @@ module _ (g : Search) (is : IsSearch g) where
   lead-in = omega (arith, initiator-in)
 
   pub own-is : (j : ℕ) → j < size g → IsOwn (ownIn g j) j
-  own-is j h = accepted-is-own (g .shape) (g .sent) (g .received) j (is .long) (is .accepted) h
+  own-is j h = is-own (is .accepted) j h
 
   pub book-is : IsBook mark (viewIn g)
-  book-is = accepted-is-book (g .shape) (g .sent) (g .received) (is .long) (is .accepted)
+  book-is = accepted-book (is .accepted)
 
   pub line-is : IsLine (viewIn g) (lineIn g)
   line-is = line-is-line mark (viewIn g) book-is

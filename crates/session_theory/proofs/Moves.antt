@@ -10,7 +10,7 @@ use Rattle.book.specs.Bounds.{mostProcesses}
 use Rattle.lists.specs.Pick.{pick}
 use Rattle.mail.specs.declared.Outgoing.{Outgoing}
 use Rattle.mail.specs.Outgoing.{goesTo, bytesTo}
-use Rattle.machine.specs.Named.{countLimit}
+use Rattle.machine.specs.Named.{tallyLimit}
 use Rattle.exchange_laws.specs.Ends.{isSearch}
 use Rattle.strands.specs.Strands.{slotSize, roomForAll, haveRoom, posted}
 use Rattle.session.specs.declared.Session.{Session}
@@ -26,13 +26,13 @@ use Rattle.session_theory.proofs.Invariant.{Laid, boxAfter, Phase, quie
 -- ---- the calls, on a search's tables
 
 abbrev pub begins : Search → Turned
-begins g = begun (g .shape) (g .sent) (g .received) (g .initiator) (g .purpose)
+begins g = begun (g .tables) (g .initiator) (g .purpose)
 
 abbrev pub goesDown : Search → Session → ℕ → List ℕ → Turned
-goesDown g s k b = deliverDown (g .shape) (g .sent) (g .received) s k b
+goesDown g s k b = deliverDown (g .tables) s k b
 
 abbrev pub goesUp : Search → Session → ℕ → List ℕ → Turned
-goesUp g s k b = deliverUp (g .shape) (g .sent) (g .received) s k b
+goesUp g s k b = deliverUp (g .tables) s k b
 
 -- messages go to participants alone
 abbrev pub ToParticipants : Search → Outgoing → Type 0
@@ -75,7 +75,7 @@ RoomSuffices =
 pub record Passes (g : Search) (s : Session) (strands : List ℕ) : Type 0 where
   pub named : sessionNamed (size g) s ≡ true
   pub purposed : sessionPurposes s ≡ true
-  pub fitting : sessionFits (g .shape) (g .sent) (g .received) s strands ≡ true
+  pub fitting : sessionFits (g .tables) s strands ≡ true
 
 abbrev pub holding : Phase → Waiting
 holding quiet = Nothing
@@ -104,7 +104,7 @@ pub record EndsTell (g : Search) (s : Session) (strands : List ℕ) (box : ℕ �
 abbrev pub EndsFit : Type 0
 EndsFit =
     (g : Search) (s : Session) (strands : List ℕ) (box : ℕ → List ℕ) (open′ : ℕ → Bool) → IsSearch g
-    → s .delivered < countLimit → Ends g s box open′ → EndsTell g s strands box open′
+    → s .delivered < tallyLimit → Ends g s box open′ → EndsTell g s strands box open′
 
 -- ---- the start
 

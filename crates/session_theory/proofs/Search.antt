@@ -1,13 +1,10 @@
 -- A search on accepted tables, and the names that the theory of its session uses. Processes count from 0.
 use mathlib.Core.Path.{_≡_}
 use mathlib.Core.Bool.{Bool, true}
-use mathlib.Core.List.{List}
 use Prim.Native.Nat.{ℕ, _+_, _-_, _*_, _≤_, _<_}
-use lib.ListN.{length}
-use Rattle.book.specs.declared.Shape.{Shape}
 use Rattle.book.specs.declared.Process.{Process}
-use Rattle.book.specs.Bounds.{mostProcesses}
-use Rattle.book.specs.Check.{tablesQuestion}
+use Rattle.book.specs.Lent.{Tables}
+use Rattle.book.specs.Accepted.{AreAccepted}
 use Rattle.lists.specs.Over.{sumTo}
 use Rattle.line_theory.specs.Sets.{View, newerThan}
 use Rattle.line_theory.specs.Search.{line}
@@ -18,21 +15,18 @@ use Rattle.machine.specs.Named.{isParticipant}
 
 -- the tables, who began, and what for
 pub record Search : Type 0 where
-  pub shape : Shape
-  pub sent : List ℕ
-  pub received : List ℕ
+  pub tables : Tables
   pub initiator : Process
   pub purpose : ℕ
 
 -- what a start has asked
 pub record IsSearch (g : Search) : Type 0 where
-  pub long : length (g .shape .counts) ≡ mostProcesses
-  pub accepted : tablesQuestion (g .shape) (g .sent) (g .received) ≡ 0
-  pub named : isNamed (g .shape .n) (g .initiator .0) ≡ true
+  pub accepted : AreAccepted (g .tables)
+  pub named : isNamed (g .tables .shape .n) (g .initiator .0) ≡ true
   pub purposed : isPurpose (g .purpose) ≡ true
 
 abbrev pub size : Search → ℕ
-size g = g .shape .n
+size g = g .tables .shape .n
 
 -- the initiator
 abbrev pub lead : Search → ℕ
@@ -42,10 +36,10 @@ abbrev pub isPart : Search → ℕ → Bool
 isPart g k = isParticipant (size g) (lead g) k
 
 abbrev pub ownIn : Search → ℕ → Own
-ownIn g j = ownOf (g .shape) (g .sent) (g .received) j
+ownIn g j = ownOf (g .tables) j
 
 abbrev pub viewIn : Search → View
-viewIn g = viewOf (g .shape) (g .sent) (g .received)
+viewIn g = viewOf (g .tables)
 
 abbrev pub lineIn : Search → ℕ → ℕ
 lineIn g j = line (viewIn g) j

@@ -2,16 +2,19 @@
 -- shows a book is the view of its tables.
 use mathlib.Core.Path.{_≡_, sym, ap, _∙_}
 use mathlib.Core.List.{List, []}
-use Prim.Native.Nat.{ℕ, suc, _-_, _≤_, _<_}
+use Prim.Native.Nat.{ℕ, suc, _+_, _-_, _≤_, _<_}
 use native.Mathlib.Omega.{arith}
 use lib.ListN.{length, take, getD}
 use lib.Seq.{take-all, ext-getD}
 use Rattle.book.specs.declared.Shape.{Shape}
 use Rattle.book.specs.Bounds.{mark}
+use Rattle.book.specs.Lent.{lent, Tables}
+use Rattle.book.specs.Accepted.{AreAccepted}
 use Rattle.book.specs.Layout.{width, Book}
-use Rattle.book.specs.Tables.{partnerColumn, countsOf, shapeOf, sentTable, receivedTable, bookOf}
+use Rattle.book.specs.Tables.{partnerColumn, countsOf, shapeOf, sentTable, receivedTable, bookOf, tablesOf}
 use Rattle.book.specs.View.{sum, count}
 use Rattle.round_trips.specs.WellFormed.{process, checkpoint, counter, WellFormed}
+use Rattle.round_trips.proofs.Counters.{by-half}
 use Rattle.round_trips.proofs.ToTables.{length-countsOf}
 use Rattle.round_trips.proofs.Tables.{good-of, good-tables, of-shape, of-sent, of-received}
 use Rattle.round_trips.proofs.View.{view-count}
@@ -20,57 +23,53 @@ use Rattle.round_trips.proofs.Zeros.{length-padded}
 use Rattle.lists.specs.Over.{sumTo, tab}
 use Rattle.line_theory.specs.Sets.{View}
 use Rattle.line_theory.specs.OfTables.{viewOf}
+use Rattle.line_theory.proofs.Accepted.{checked, well, inside, sent-of, received-of}
 use Rattle.lists.proofs.Over.{length-tab, getD-tab, sum-ext}
 use Rattle.shown.specs.Shown.{bookShown}
-use Rattle.shown.specs.Statements.{ShowsBook, AreAccepted, TablesShown, ShownIsAccepted, ShownIsView}
-use Rattle.shown.proofs.Columns.{by-half}
+use Rattle.shown.specs.Statements.{ShowsBook, TablesShown, ShownIsAccepted, ShownIsView}
 use Rattle.shown.proofs.Rows.{counts-shown}
 use Rattle.shown.proofs.Sums.{sum-to}
-use Rattle.shown.proofs.Accepted.{asked, accepted-well, there, other-sent, other-received}
 use Rattle.shown.proofs.Counters.{length-counters, is-counter, length-shown, checkpoint-shown, sent-shown, received-shown, book-same}
 
 -- ---- the view of accepted tables
 
-module _ (shape : Shape) (sent received : List ℕ) (are : AreAccepted shape sent received) where
+module _ {t : Tables} (are : AreAccepted t) where
   abbrev v : View
-  v = viewOf shape sent received
+  v = viewOf t
 
   abbrev held : Book
-  held = bookOf shape sent received
-
-  well : WellFormed held
-  well = accepted-well shape sent received are
+  held = bookOf t
 
   -- they are compared counter by counter
-  same-checkpoint : (j r : ℕ) → j < shape .n → r < count shape j → checkpoint (bookShown v) j r ≡ checkpoint held j r
+  same-checkpoint : (j r : ℕ) → j < t .shape .n → r < count (t .shape) j → checkpoint (bookShown v) j r ≡ checkpoint held j r
   same-checkpoint j r h m =
-      let long : length (checkpoint (bookShown v) j r) ≡ width (shape .n)
+      let long : length (checkpoint (bookShown v) j r) ≡ width (t .shape .n)
       = ap length (checkpoint-shown v j h r m) ∙ length-counters v j (suc r) in
-      ext-getD 0 (checkpoint (bookShown v) j r) (checkpoint held j r) (long ∙ sym (well .counters j r h (there shape sent received are j r h m))) (λ k i.
-      by-half (λ k. counter (bookShown v) j r k ≡ counter held j r k) (shape .n - 1)
-      (λ k i. sent-shown v j h r k m i ∙ other-sent shape sent received are j r h m k i)
-      (λ k i. received-shown v j h r k m i ∙ other-received shape sent received are j r h m k i) k (rw long at i))
+      ext-getD 0 (checkpoint (bookShown v) j r) (checkpoint held j r) (long ∙ sym (well are .counters j r h (inside are j r h m))) (λ k i.
+      by-half (λ k. counter (bookShown v) j r k ≡ counter held j r k) (t .shape .n - 1)
+      (λ k i. sent-shown v j h r k m i ∙ sent-of are j r h m k i)
+      (λ k i. received-shown v j h r k m i ∙ received-of are j r h m k i) k (rw long at i))
 
-  same-process : (j : ℕ) → j < shape .n → process (bookShown v) j ≡ process held j
+  same-process : (j : ℕ) → j < t .shape .n → process (bookShown v) j ≡ process held j
   same-process j h =
       ext-getD [] (process (bookShown v) j) (process held j)
-      (length-shown v j h ∙ view-count shape sent received (are .sixteen) (asked shape sent received are) j h)
+      (length-shown v j h ∙ view-count (are .sixteen) (checked are) j h)
       (λ r m. same-checkpoint j r h (rw (length-shown v j h) at m))
 
   shown-held : bookShown v ≡ held
   unfolding bookShown
   shown-held =
-      let long : length (bookShown v .processes) ≡ shape .n = length-tab (shape .n) _ in
-      ap {B = Book} (λ ps. record { n = shape .n; processes = ps })
-      (ext-getD [] (bookShown v .processes) (held .processes) (long ∙ sym (well .processes)) (λ j h. same-process j (rw long at h)))
+      let long : length (bookShown v .processes) ≡ t .shape .n = length-tab (t .shape .n) _ in
+      ap {B = Book} (λ ps. record { n = t .shape .n; processes = ps })
+      (ext-getD [] (bookShown v .processes) (held .processes) (long ∙ sym (well are .processes)) (λ j h. same-process j (rw long at h)))
 
 pub tables-shown : TablesShown
-tables-shown shape sent received are =
-    let c = asked shape sent received are in
-    rw (shown-held shape sent received are) (
-      of-shape shape sent received (are .sixteen) c,
-      of-sent shape sent received (are .sixteen) c,
-      of-received shape sent received (are .sixteen) c,
+tables-shown t are =
+    let c = checked are in
+    rw (shown-held are) (
+      of-shape (are .sixteen) c,
+      of-sent (are .sixteen) c,
+      of-received (are .sixteen) c,
     )
 
 -- ---- a view that shows a book
@@ -98,7 +97,8 @@ module _ (v : View) (shows : ShowsBook v) where
         few = few;
         counters = λ j r h m. ap length (checkpoint-shown v j h r (inside j r h m)) ∙ length-counters v j (suc r);
         known = λ j r k h m i. known j r h (inside j r h m) k i;
-        oldest = λ j k h i. oldest j h k i;
+        oldest-sent = oldest-sent;
+        oldest-received = oldest-received;
         rising = λ j r k h m i. rising j r h (inside j (suc r) h m) k i;
       }
     where
@@ -111,12 +111,15 @@ module _ (v : View) (shows : ShowsBook v) where
           (λ k i. rw (sent-shown v j h r k m i) (shows .known j (suc r) (partnerColumn j k) (is-counter v j r k h m i) .0))
           (λ k i. rw (received-shown v j h r k m i) (shows .known j (suc r) (partnerColumn j k) (is-counter v j r k h m i) .1))
 
-      oldest : (j : ℕ) → j < v .n → (k : ℕ) → k < width (v .n) → counter book j 0 k ≡ 0
-      oldest j h =
+      oldest-sent : (j k : ℕ) → j < v .n → k < v .n - 1 → counter book j 0 k ≡ 0
+      oldest-sent j k h i =
           let some : 1 ≤ v .count j = shows .some j h in
-          by-half (λ k. counter book j 0 k ≡ 0) (v .n - 1)
-          (λ k i. sent-shown v j h 0 k some i ∙ shows .oldest-sent j (partnerColumn j k) h (is-counter v j 0 k h some i .partner))
-          (λ k i. received-shown v j h 0 k some i ∙ shows .oldest-received j (partnerColumn j k) h (is-counter v j 0 k h some i .partner))
+          sent-shown v j h 0 k some i ∙ shows .oldest-sent j (partnerColumn j k) h (is-counter v j 0 k h some i .partner)
+
+      oldest-received : (j k : ℕ) → j < v .n → k < v .n - 1 → counter book j 0 (v .n - 1 + k) ≡ 0
+      oldest-received j k h i =
+          let some : 1 ≤ v .count j = shows .some j h in
+          received-shown v j h 0 k some i ∙ shows .oldest-received j (partnerColumn j k) h (is-counter v j 0 k h some i .partner)
 
       rising : (j r : ℕ) → j < v .n → suc r < v .count j → (k : ℕ) → k < width (v .n) → counter book j r k ≤ counter book j (suc r) k
       rising j r h m =
@@ -129,7 +132,7 @@ module _ (v : View) (shows : ShowsBook v) where
           rw (received-shown v j h r k m′ i, received-shown v j h (suc r) k m i)
           (shows .rising j (suc r) (partnerColumn j k) (is-counter v j r k h m′ i) m .1))
 
-  shown-accepted : AreAccepted (shapeOf book) (sentTable book) (receivedTable book)
+  shown-accepted : AreAccepted (tablesOf book)
   shown-accepted =
       record {
         sixteen =
@@ -146,5 +149,5 @@ pub shown-is-view : ShownIsView
 shown-is-view v shows =
     let book : Book = bookShown v in
     let shape : Shape = shapeOf book in
-    book-same (viewOf shape (sentTable book) (receivedTable book)) v
-    (shown-held shape (sentTable book) (receivedTable book) (shown-accepted v shows) ∙ good-of book (well-good book (well-shown v shows)))
+    book-same (viewOf (lent shape (sentTable book) (receivedTable book))) v
+    (shown-held (shown-accepted v shows) ∙ good-of book (well-good book (well-shown v shows)))

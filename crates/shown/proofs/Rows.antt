@@ -5,16 +5,15 @@ use mathlib.Core.List.{List, [], _∷_, _++_, append-assoc, append-nil}
 use Prim.Native.Nat.{ℕ, zero, suc, _+_, _-_, _≤_, _<_}
 use native.Mathlib.Nat.{add-zero}
 use native.Mathlib.Omega.{arith}
-use borrow.Author.Tests.{eq-eqb}
-use lib.ListN.{length, take, drop, getD, length-drop}
+use lib.ListN.{length, take, drop, length-drop}
 use lib.Seq.{take-all, getD-drop}
 use Rattle.book.specs.declared.Shape.{Shape}
 use Rattle.book.specs.Bounds.{mostProcesses, entries}
 use Rattle.book.specs.Questions.{allZero}
 use Rattle.book.specs.Tables.{padded, tableRow, processRows, rowsFrom, countsOf, others, partnerColumn}
+use Rattle.book.proofs.Zeros.{zero-each}
 use Rattle.book.proofs.Rows.{length-others, getD-others, column-within}
 use Rattle.round_trips.proofs.Row.{row-others}
-use Rattle.round_trips.proofs.Zeros.{cons-zero}
 use Rattle.lists.specs.Over.{tabFrom, tab}
 use Rattle.line_theory.specs.Sets.{View}
 use Rattle.lists.proofs.Over.{length-tab, getD-tab, tab-is, tab-last}
@@ -24,11 +23,6 @@ use Rattle.shown.specs.Statements.{ZeroElsewhere, ShapeShown, SentRowsSh
 use Rattle.shown.proofs.Counters.{sent-half, received-half}
 
 -- ---- one row
-
-all-zero : (l : List ℕ) → ((i : ℕ) → i < length l → getD l i 0 ≡ 0) → allZero l ≡ true
-unfolding allZero
-all-zero [] h = refl
-all-zero (v ∷ l) h = cons-zero v l (eq-eqb v 0 (h 0 (omega arith))) (all-zero l (λ i m. h (suc i) (omega arith)))
 
 -- a row of sixteen that is zero elsewhere is the row of what it holds for the others
 row-shown : (n j : ℕ) (f : ℕ → ℕ) → j < n → n ≤ 16 → f j ≡ 0 → ((p : ℕ) → n ≤ p → p < 16 → f p ≡ 0)
@@ -41,7 +35,7 @@ row-shown n j f h few own absent =
     (λ k i. getD-others n j k row h (omega arith) i ∙ getD-tab 16 f (partnerColumn j k) 0 (omega (arith, column-within j k))) in
     let whole : take 16 row ≡ row = take-all 16 row (omega arith) in
     let none : allZero (drop n row) ≡ true
-    = all-zero (drop n row) (λ i m.
+    = zero-each (drop n row) (λ i m.
     let i′ : n + i < 16 = omega (arith, length-drop n row, m) in
     getD-drop n row i 0 ∙ getD-tab 16 f (n + i) 0 i′ ∙ absent (n + i) (omega arith) i′) in
     rw (← same) (row-others n j row h few (omega arith) (getD-tab 16 f j 0 (omega arith) ∙ own) (rw whole none) ∙ whole)

@@ -1,14 +1,12 @@
 -- What is proved of the book that a view shows.
 use mathlib.Core.Path.{_≡_}
-use mathlib.Core.List.{List}
 use Prim.Native.Nat.{ℕ, suc, _≤_, _<_}
-use lib.ListN.{length}
-use Rattle.book.specs.declared.Shape.{Shape}
 use Rattle.book.specs.Bounds.{mark, mostProcesses, mostCheckpoints, entries}
 use Rattle.book.specs.Layout.{Book}
-use Rattle.book.specs.Tables.{shapeOf, sentTable, receivedTable, padded}
+use Rattle.book.specs.Lent.{Tables}
+use Rattle.book.specs.Tables.{shapeOf, sentTable, receivedTable, padded, tablesOf}
 use Rattle.book.specs.View.{count, S, R}
-use Rattle.book.specs.Check.{tablesQuestion}
+use Rattle.book.specs.Accepted.{AreAccepted}
 use Rattle.lists.specs.Over.{sumTo, tab}
 use Rattle.line_theory.specs.Sets.{View}
 use Rattle.line_theory.specs.OfTables.{viewOf}
@@ -65,37 +63,29 @@ ShapeShown = (v : View) → shapeOf (bookShown v) ≡ record { n = v .n; counts 
 abbrev pub SameBook : Type 0
 SameBook = (v w : View) → SameCounters v w → bookShown v ≡ bookShown w
 
-module _ (shape : Shape) (sent received : List ℕ) where
-  -- sixteen counts, and no question of the tables fails (`passed` is not 01's "passed", which is T)
-  pub record AreAccepted : Type 0 where
-    pub sixteen : length (shape .counts) ≡ mostProcesses
-    pub passed : tablesQuestion shape sent received ≡ 0
-
 -- The view of accepted tables is as asked, zero elsewhere, and the tables are those of the book that it shows.
 abbrev pub AcceptedShows : Type 0
-AcceptedShows =
-    (shape : Shape) (sent received : List ℕ) → AreAccepted shape sent received → ShowsBook (viewOf shape sent received)
+AcceptedShows = (tables : Tables) → AreAccepted tables → ShowsBook (viewOf tables)
 
 abbrev pub AcceptedZeroElsewhere : Type 0
 AcceptedZeroElsewhere =
-    (shape : Shape) (sent received : List ℕ) → AreAccepted shape sent received
-    → ZeroElsewhere (viewOf shape sent received) (S shape sent) × ZeroElsewhere (viewOf shape sent received) (R shape received)
+    (tables : Tables) → AreAccepted tables
+    → ZeroElsewhere (viewOf tables) (S (tables .shape) (tables .sent)) × ZeroElsewhere (viewOf tables) (R (tables .shape) (tables .received))
 
 abbrev pub TablesShown : Type 0
 TablesShown =
-    (shape : Shape) (sent received : List ℕ) → AreAccepted shape sent received
-    → let book : Book = bookShown (viewOf shape sent received) in
-    (shapeOf book ≡ shape) × (sentTable book ≡ sent) × (receivedTable book ≡ received)
+    (tables : Tables) → AreAccepted tables → let book : Book = bookShown (viewOf tables) in
+    (shapeOf book ≡ tables .shape) × (sentTable book ≡ tables .sent) × (receivedTable book ≡ tables .received)
 
 -- The tables of the book that such a view shows are accepted, and their view is that view again.
 abbrev pub ShownIsAccepted : Type 0
 ShownIsAccepted =
     (v : View) → ShowsBook v
     → let book : Book = bookShown v in
-    AreAccepted (shapeOf book) (sentTable book) (receivedTable book)
+    AreAccepted (tablesOf book)
 
 abbrev pub ShownIsView : Type 0
 ShownIsView =
     (v : View) → ShowsBook v
     → let book : Book = bookShown v in
-    SameCounters (viewOf (shapeOf book) (sentTable book) (receivedTable book)) v
+    SameCounters (viewOf (tablesOf book)) v

@@ -8,19 +8,19 @@ use Rattle.lists.proofs.Over.{length-tab}
 use Rattle.participant.specs.declared.Participant.{Participant}
 use Rattle.participant.specs.Calls.{noParticipant}
 use Rattle.initiator.specs.declared.Initiator.{Initiator}
-use Rattle.words.specs.Participant.{participantWords}
-use Rattle.words.specs.Initiator.{initiatorWords}
+use Rattle.words.specs.Participant.{participantLength, participantWords}
+use Rattle.words.specs.Initiator.{initiatorLength, initiatorWords}
 use Rattle.words.specs.Session.{placeWords}
 
-pub length-participant : (state : Participant) → length (participantWords state) ≡ 38
+pub length-participant : (state : Participant) → length (participantWords state) ≡ participantLength
 unfolding participantWords
 length-participant state = simp (length-append, length-tab)
 
-pub length-initiator : (state : Initiator) → length (initiatorWords state) ≡ 534
+pub length-initiator : (state : Initiator) → length (initiatorWords state) ≡ initiatorLength
 unfolding initiatorWords
 length-initiator state = simp (length-append, length-tab)
 
-pub length-places : (participants : List Participant) (k : ℕ) → length (placeWords participants k) ≡ k * 38
+pub length-places : (participants : List Participant) (k : ℕ) → length (placeWords participants k) ≡ k * participantLength
 unfolding placeWords
 length-places participants zero = refl
 length-places participants (suc k) =

@@ -6,6 +6,7 @@ use native.Mathlib.Numerals.{add-one}
 use native.Mathlib.Omega.{arith}
 use lib.ListN.{length, getD}
 use lib.Seq.{sets, length-sets}
+use Rattle.book.specs.Bounds.{mostProcesses}
 use Rattle.participant.specs.declared.Participant.{Participant}
 use Rattle.participant.specs.Calls.{noParticipant}
 use Rattle.lists.proofs.Over.{at-place}
@@ -16,7 +17,7 @@ use Rattle.state_words.proofs.Lengths.{length-places}
 
 -- the first k stand at their places
 pub record Placed (participants : List Participant) (l₀ l : List ℕ) (k : ℕ) : Type 0 where
-  pub within : k ≤ 16
+  pub within : k ≤ mostProcesses
   pub same : length l ≡ length l₀
   pub present : l ≡ sets l₀ (placeStart 0) (placeWords participants k)
 
@@ -27,7 +28,7 @@ module _ {participants : List Participant} {l₀ : List ℕ} where
 
   module _ {l : List ℕ} {k : ℕ} (placed : Placed participants l₀ l k) where
     -- `d` is what would stand beyond the last place
-    pub placed-more : k < 16 → k < length participants → (d : Participant) {at : ℕ} {l′ : List ℕ} → at ≡ placeStart k
+    pub placed-more : k < mostProcesses → k < length participants → (d : Participant) {at : ℕ} {l′ : List ℕ} → at ≡ placeStart k
         → l′ ≡ sets l at (participantWords (getD participants k d)) → Placed participants l₀ l′ (k + 1)
     unfolding placeWords
     placed-more h there d {at} {l′} place put =
@@ -42,5 +43,5 @@ module _ {participants : List Participant} {l₀ : List ℕ} where
               (sets-then done (participantWords state) l₀ (placeStart 0) (placed .present) (omega (arith, length-places participants k)) stored);
         }
 
-    pub placed-all : 16 ≤ k → l ≡ sets l₀ (placeStart 0) (placeWords participants 16)
-    placed-all h = let all : k ≡ 16 = omega (arith, placed .within) in rw all at (placed .present)
+    pub placed-all : mostProcesses ≤ k → l ≡ sets l₀ (placeStart 0) (placeWords participants mostProcesses)
+    placed-all h = let all : k ≡ mostProcesses = omega (arith, placed .within) in rw all at (placed .present)

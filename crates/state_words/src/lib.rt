@@ -8,15 +8,19 @@ use participant::Participant;
 use participant::Stage;
 pub use sessions::put_session;
 pub use sessions::session_in;
+use words::layout;
 ghost use mathlib.Core.Path.{_≡_};
 ghost use Prim.Native.Nat.{_+_, _≤_};
 ghost use lib.ListN.{length};
 ghost use lib.Seq.{sets};
-ghost use Rattle.words.specs.Participant.{stageWord, stageIn, participantWords, participantDecodes, participantFrom, participantIn};
-ghost use Rattle.words.specs.Initiator.{flagWord, flagIn, flagWords, flagsAt, initiatorWords, initiatorDecodes, initiatorFrom, initiatorIn};
+ghost use Rattle.book.specs.Bounds.{mostProcesses};
+ghost use Rattle.words.specs.Participant.{participantLength, stageWord, stageIn, participantWords, participantDecodes, participantFrom, participantIn};
+ghost use Rattle.words.specs.Initiator.{initiatorLength, flagWord, flagWords, flagsAt, initiatorWords, initiatorDecodes, initiatorFrom, initiatorIn};
 
-// How many words stand before a state's rows and matrices.
-const HEAD_WORDS: usize = 6;
+// A participant's state ends with the counters of its row and column, an initiator's with those of its matrix and copy.
+const PARTICIPANT_COUNTERS: usize = layout::PARTICIPANT_WORDS - layout::PARTICIPANT_ROW_AT;
+
+const INITIATOR_COUNTERS: usize = layout::INITIATOR_WORDS - layout::INITIATOR_MATRIX_AT;
 
 fn stage_word(stage: Stage) -> u64
     ensures { λ r. ⌜ r ≡ stageWord stage ⌝ }
@@ -46,29 +50,34 @@ fn flag_word(flag: bool) -> u64
 
 // Do the words from a place on stand for a participant's state?
 pub fn participant_decodes(words: &[u64], at: usize) -> bool
-    requires { ⌜ at + 38 ≤ length (now words) ⌝ }
+    requires { ⌜ at + participantLength ≤ length (now words) ⌝ }
     ensures { λ r. ⌜ r ≡ participantDecodes (now (words .entry)) at ⌝ }
 {
-    if 3 <= words[at + 4] {
+    if 3 <= words[at + layout::PARTICIPANT_STAGE_AT] {
         return false;
     }
-    words::all_below(words::COUNTER_LIMIT, words, at + 6, 32)
+    words::all_below(
+        words::COUNTER_BOUND,
+        words,
+        at + layout::PARTICIPANT_ROW_AT,
+        PARTICIPANT_COUNTERS,
+    )
 }
 
 // The participant's state, of n processes, that they stand for.
 pub fn participant_at(n: usize, words: &[u64], at: usize) -> Participant
-    requires { ⌜ at + 38 ≤ length (now words) ⌝ }
+    requires { ⌜ at + participantLength ≤ length (now words) ⌝ }
     ensures { λ r. ⌜ r ≡ participantFrom n (now (words .entry)) at ⌝ }
 {
-    let row = words::row_at(words, at + 6);
-    let column = words::row_at(words, at + 22);
+    let row = words::row_at(words, at + layout::PARTICIPANT_ROW_AT);
+    let column = words::row_at(words, at + layout::PARTICIPANT_COLUMN_AT);
     Participant {
         n,
-        me: Process(words::number(words[at + 1])),
-        initiator: Process(words::number(words[at + 2])),
-        purpose: words[at + 3],
-        stage: stage_in(words[at + 4]),
-        candidate: Checkpoint(words::number(words[at + 5])),
+        me: Process(words::number(words[at + layout::PARTICIPANT_PROCESS_AT])),
+        initiator: Process(words::number(words[at + layout::PARTICIPANT_INITIATOR_AT])),
+        purpose: words[at + layout::PARTICIPANT_PURPOSE_AT],
+        stage: stage_in(words[at + layout::PARTICIPANT_STAGE_AT]),
+        candidate: Checkpoint(words::number(words[at + layout::PARTICIPANT_CANDIDATE_AT])),
         row,
         column,
     }
@@ -76,7 +85,7 @@ pub fn participant_at(n: usize, words: &[u64], at: usize) -> Participant
 
 // The participant's state in a slice of words; one that does not decode has no processes.
 pub fn participant_in(words: &[u64]) -> Participant
-    requires { ⌜ length (now words) ≡ 38 ⌝ }
+    requires { ⌜ length (now words) ≡ participantLength ⌝ }
     ensures { λ r. ⌜ r ≡ participantIn (now (words .entry)) ⌝ }
 {
     if !participant_decodes(words, 0) {
@@ -85,13 +94,13 @@ pub fn participant_in(words: &[u64]) -> Participant
     participant_at(words::number(words[0]), words, 0)
 }
 
-// The six words that a state begins with, to a place on.
-fn put_head(head: [u64; 6], words: &mut [u64], at: usize)
-    requires { ⌜ at + 6 ≤ length (now words) ⌝ }
-    ensures { λ _. ⌜ now (words .exit) ≡ sets (now (words .entry)) at head ⌝ }
+// The words that a state begins with, to a place on.
+fn put_head(head: &[u64], words: &mut [u64], at: usize)
+    requires { ⌜ at + length (now head) ≤ length (now words) ⌝ }
+    ensures { λ _. ⌜ now (words .exit) ≡ sets (now (words .entry)) at (now (head .entry)) ⌝ }
 {
     let mut i = 0;
-    while i < HEAD_WORDS {
+    while i < head.len() {
         words[at + i] = head[i];
         i += 1;
     }
@@ -99,7 +108,7 @@ fn put_head(head: [u64; 6], words: &mut [u64], at: usize)
 
 // A participant's state, to a place on.
 pub fn put_participant(state: Participant, words: &mut [u64], at: usize)
-    requires { ⌜ at + 38 ≤ length (now words) ⌝ }
+    requires { ⌜ at + participantLength ≤ length (now words) ⌝ }
     ensures { λ _. ⌜ now (words .exit) ≡ sets (now (words .entry)) at (participantWords state) ⌝ }
 {
     let me = state.me;
@@ -116,14 +125,14 @@ pub fn put_participant(state: Participant, words: &mut [u64], at: usize)
         stage_word(stage),
         words::of_number(candidate.0),
     ];
-    put_head(head, words, at);
-    words::put_row(row, words, at + 6);
-    words::put_row(column, words, at + 22);
+    put_head(&head, words, at);
+    words::put_row(row, words, at + layout::PARTICIPANT_ROW_AT);
+    words::put_row(column, words, at + layout::PARTICIPANT_COLUMN_AT);
 }
 
 // Sixteen flags from a place on.
 fn flags_at(words: &[u64], at: usize) -> [bool; 16]
-    requires { ⌜ at + 16 ≤ length (now words) ⌝ }
+    requires { ⌜ at + mostProcesses ≤ length (now words) ⌝ }
     ensures { λ r. ⌜ r ≡ flagsAt (now (words .entry)) at ⌝ }
 {
     let mut flags = [false; 16];
@@ -137,7 +146,7 @@ fn flags_at(words: &[u64], at: usize) -> [bool; 16]
 
 // Sixteen flags, to a place on.
 fn put_flags(flags: [bool; 16], words: &mut [u64], at: usize)
-    requires { ⌜ at + 16 ≤ length (now words) ⌝ }
+    requires { ⌜ at + mostProcesses ≤ length (now words) ⌝ }
     ensures { λ _. ⌜ now (words .exit) ≡ sets (now (words .entry)) at (flagWords flags) ⌝ }
 {
     let mut i = 0;
@@ -149,36 +158,46 @@ fn put_flags(flags: [bool; 16], words: &mut [u64], at: usize)
 
 // Do the words from a place on stand for an initiator's state?
 pub fn initiator_decodes(words: &[u64], at: usize) -> bool
-    requires { ⌜ at + 534 ≤ length (now words) ⌝ }
+    requires { ⌜ at + initiatorLength ≤ length (now words) ⌝ }
     ensures { λ r. ⌜ r ≡ initiatorDecodes (now (words .entry)) at ⌝ }
 {
-    if 2 <= words[at + 3] {
+    if 2 <= words[at + layout::INITIATOR_ENDED_AT] {
         return false;
     }
-    if words::COUNTER_LIMIT <= words[at + 5] {
+    if words::TALLY_BOUND <= words[at + layout::INITIATOR_ROUNDS_AT] {
         return false;
     }
-    if !words::all_below(2, words, at + 6, 16) {
+    if !words::all_below(
+        2,
+        words,
+        at + layout::INITIATOR_AWAITED_AT,
+        book::MOST_PROCESSES,
+    ) {
         return false;
     }
-    words::all_below(words::COUNTER_LIMIT, words, at + 22, 512)
+    words::all_below(
+        words::COUNTER_BOUND,
+        words,
+        at + layout::INITIATOR_MATRIX_AT,
+        INITIATOR_COUNTERS,
+    )
 }
 
 // The initiator's state, of n processes, that they stand for.
 pub fn initiator_at(n: usize, words: &[u64], at: usize) -> Initiator
-    requires { ⌜ at + 534 ≤ length (now words) ⌝ }
+    requires { ⌜ at + initiatorLength ≤ length (now words) ⌝ }
     ensures { λ r. ⌜ r ≡ initiatorFrom n (now (words .entry)) at ⌝ }
 {
-    let awaited = flags_at(words, at + 6);
-    let matrix = words::matrix_at(words, at + 22);
-    let copy = words::matrix_at(words, at + 278);
+    let awaited = flags_at(words, at + layout::INITIATOR_AWAITED_AT);
+    let matrix = words::matrix_at(words, at + layout::INITIATOR_MATRIX_AT);
+    let copy = words::matrix_at(words, at + layout::INITIATOR_COPY_AT);
     Initiator {
         n,
-        me: Process(words::number(words[at + 1])),
-        purpose: words[at + 2],
-        ended: words[at + 3] != 0,
-        candidate: Checkpoint(words::number(words[at + 4])),
-        rounds: words::low(words[at + 5]),
+        me: Process(words::number(words[at + layout::INITIATOR_PROCESS_AT])),
+        purpose: words[at + layout::INITIATOR_PURPOSE_AT],
+        ended: words[at + layout::INITIATOR_ENDED_AT] != 0,
+        candidate: Checkpoint(words::number(words[at + layout::INITIATOR_CANDIDATE_AT])),
+        rounds: words::tally_in(words[at + layout::INITIATOR_ROUNDS_AT]),
         awaited,
         matrix,
         copy,
@@ -187,7 +206,7 @@ pub fn initiator_at(n: usize, words: &[u64], at: usize) -> Initiator
 
 // The initiator's state in a slice of words; one that does not decode has no processes.
 pub fn initiator_in(words: &[u64]) -> Initiator
-    requires { ⌜ length (now words) ≡ 534 ⌝ }
+    requires { ⌜ length (now words) ≡ initiatorLength ⌝ }
     ensures { λ r. ⌜ r ≡ initiatorIn (now (words .entry)) ⌝ }
 {
     if !initiator_decodes(words, 0) {
@@ -198,7 +217,7 @@ pub fn initiator_in(words: &[u64]) -> Initiator
 
 // An initiator's state, to a place on.
 pub fn put_initiator(state: Initiator, words: &mut [u64], at: usize)
-    requires { ⌜ at + 534 ≤ length (now words) ⌝ }
+    requires { ⌜ at + initiatorLength ≤ length (now words) ⌝ }
     ensures { λ _. ⌜ now (words .exit) ≡ sets (now (words .entry)) at (initiatorWords state) ⌝ }
 {
     let me = state.me;
@@ -212,10 +231,10 @@ pub fn put_initiator(state: Initiator, words: &mut [u64], at: usize)
         state.purpose,
         flag_word(state.ended),
         words::of_number(candidate.0),
-        book::wide(state.rounds),
+        words::of_tally(state.rounds),
     ];
-    put_head(head, words, at);
-    put_flags(awaited, words, at + 6);
-    words::put_matrix(matrix, words, at + 22);
-    words::put_matrix(copy, words, at + 278);
+    put_head(&head, words, at);
+    put_flags(awaited, words, at + layout::INITIATOR_AWAITED_AT);
+    words::put_matrix(matrix, words, at + layout::INITIATOR_MATRIX_AT);
+    words::put_matrix(copy, words, at + layout::INITIATOR_COPY_AT);
 }

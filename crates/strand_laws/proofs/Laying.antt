@@ -20,7 +20,8 @@ use Rattle.session_theory.proofs.Facts.{part-other, part-within}
 use Rattle.session_theory.proofs.Moves.{ToParticipants, Short}
 use Rattle.strand_laws.proofs.Runs.{sets-apart}
 use Rattle.strand_laws.proofs.Slots.{slots-apart}
-use Rattle.strand_laws.proofs.Posted.{room-in, no-bytes, length-posted, posted-other, posted-there}
+use Rattle.mail.proofs.Messages.{bytes-none}
+use Rattle.strand_laws.proofs.Posted.{room-in, length-posted, posted-other, posted-there}
 
 -- where k's slot begins
 abbrev startOf : Search → ℕ → ℕ
@@ -81,7 +82,7 @@ module _ (g : Search) (is : IsSearch g) (t : Turned) (strands : List ℕ) (leads
     go false e =
         ap
         (λ (b : List ℕ). take m (drop (startOf g q) (sets l (startOf g j) b)))
-        (no-bytes (t .outgoing) j e)
+        (bytes-none (t .outgoing) j e)
 
   length-then : (k : ℕ) → k < mostProcesses
       → lengthOn (withPosted t .lengths) k

@@ -1,7 +1,7 @@
 -- The buffer after posting: each strand that got a message holds it, and every other what it held.
-use mathlib.Core.Path.{_≡_, refl, sym, ap, subst, _∙_}
-use mathlib.Core.Bool.{Bool, true, false, not, _||_, true≢false}
-use mathlib.Core.List.{List, []}
+use mathlib.Core.Path.{_≡_, refl, sym, subst, _∙_}
+use mathlib.Core.Bool.{Bool, true, not, _||_}
+use mathlib.Core.List.{List}
 use Prim.Native.Nat.{ℕ, zero, suc, _+_, _≤_, _<_}
 use native.Mathlib.Decide.{ℕ-discrete}
 use native.Mathlib.Omega.{arith}
@@ -11,22 +11,13 @@ use lib.Dec.{leb}
 use lib.Seq.{sets, length-sets}
 use Rattle.book.specs.Bounds.{mostProcesses}
 use Rattle.lists.proofs.Over.{all-in, all-out}
-use Rattle.lists.specs.Pick.{pick}
-use Rattle.message.specs.Layout.{messageBytes}
+use Rattle.lists.proofs.Tests.{if-then, then-if}
 use Rattle.mail.specs.declared.Outgoing.{Outgoing}
-use Rattle.mail.specs.Outgoing.{goesTo, messageTo, bytesTo}
+use Rattle.mail.specs.Outgoing.{goesTo, bytesTo}
 use Rattle.strands.specs.Strands.{strandStart, haveRoom, postedTo}
 use Rattle.strand_laws.proofs.Runs.{sets-there}
 
 -- ---- question 17
-
-if-then : (a b : Bool) → (not a || b) ≡ true → a ≡ true → b ≡ true
-if-then true b h e = h
-if-then false b h e = absurd (true≢false (sym e))
-
-then-if : (a b : Bool) → (a ≡ true → b ≡ true) → (not a || b) ≡ true
-then-if true b h = h refl
-then-if false b h = refl
 
 module _ (n i : ℕ) (o : Outgoing) (strands : List ℕ) where
   -- a message's bytes fit
@@ -52,10 +43,6 @@ module _ (n i : ℕ) (o : Outgoing) (strands : List ℕ) where
       (λ goes. le-leb (strandStart n i k + length (bytesTo o k)) (length strands) (fits k small goes)))
 
 -- ---- the bytes
-
--- no message, nothing stored
-pub no-bytes : (o : Outgoing) (k : ℕ) → goesTo o k ≡ false → bytesTo o k ≡ []
-no-bytes o k e = ap (λ (v : Bool). pick v (messageBytes (messageTo o k)) []) e
 
 module _ (n i : ℕ) (o : Outgoing) (strands : List ℕ) where
   pub length-posted : (k : ℕ) → length (postedTo k n i o strands) ≡ length strands

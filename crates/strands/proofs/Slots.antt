@@ -6,13 +6,15 @@ use native.Mathlib.Nat.{mul-le-mul}
 use borrow.Author.Tests.{lt-ltb, le-ltb, leb-true}
 use lib.ListN.{length}
 use lib.Dec.{leb}
+use Rattle.book.specs.Bounds.{mostProcesses}
+use Rattle.lists.proofs.Tests.{if-then}
 use Rattle.mail.specs.declared.Outgoing.{Outgoing}
 use Rattle.mail.specs.Outgoing.{goesTo, bytesTo}
-use Rattle.strands.specs.Strands.{slotSize, strandStart}
+use Rattle.strands.specs.Strands.{slotSize, strandStart, roomForAll}
 
 -- ---- where a slot begins
 
-pub start-few : (j size : ℕ) → j ≤ 15 → size ≤ 94 → j * size ≤ 1410
+pub start-few : (j size : ℕ) → j ≤ mostProcesses - 1 → size ≤ slotSize mostProcesses → j * size ≤ roomForAll mostProcesses
 start-few j size h k = mul-le-mul h k
 
 module _ (n initiator k : ℕ) {size : ℕ} (e : size ≡ slotSize n) where
@@ -39,7 +41,4 @@ module _ (n initiator : ℕ) (o : Outgoing) (room k : ℕ) where
   pub room-is : goesTo o k ≡ true → roomFor n initiator o room k ≡ true → strandStart n initiator k + length (bytesTo o k) ≤ room
   room-is h r =
       let end : ℕ = strandStart n initiator k + length (bytesTo o k) in
-      leb-true end room (rest (goesTo o k) (leb end room) h r)
-    where
-      rest : (a b : Bool) → a ≡ true → (not a || b) ≡ true → b ≡ true
-      rest a b e f = rw e at f
+      leb-true end room (if-then (goesTo o k) (leb end room) r h)

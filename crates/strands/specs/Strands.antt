@@ -7,19 +7,16 @@ use Prim.Native.Nat.{ℕ, zero, suc, _+_, _-_, _*_}
 use lib.ListN.{length, take, drop, getD}
 use lib.Dec.{ltb, leb}
 use lib.Seq.{sets}
-use Rattle.book.specs.Bounds.{groups, mostProcesses}
+use Rattle.book.specs.Bounds.{mostProcesses}
 use Rattle.lists.specs.Over.{allTo, tab}
 use Rattle.lists.specs.Pick.{pick}
+use Rattle.message.specs.Layout.{longestMessage}
 use Rattle.mail.specs.declared.Outgoing.{Outgoing}
 use Rattle.mail.specs.Outgoing.{goesTo, bytesTo}
 
--- a message's first four numbers, of one byte each
-abbrev pub headSize : ℕ
-headSize = 4
-
--- the longest message: these, and n − 1 pairs of a process of one byte and a counter
+-- a slot is as long as the longest message
 abbrev pub slotSize : ℕ → ℕ
-slotSize n = headSize + (n - 1) * (1 + groups)
+slotSize n = longestMessage n
 
 -- where process k's slot begins; the initiator has none, and the value for it is never used
 abbrev pub strandStart : ℕ → ℕ → ℕ → ℕ

@@ -7,16 +7,21 @@ ghost use Prim.Native.Nat.{_+_, _≤_, _<_};
 ghost use lib.ListN.{length};
 ghost use lib.Dec.{leb};
 ghost use lib.Seq.{sets};
+ghost use Rattle.book.specs.Bounds.{mostProcesses};
 ghost use Rattle.mail.specs.Outgoing.{goesTo, bytesTo};
-ghost use Rattle.strands.specs.Strands.{slotSize, strandStart, haveRoom, posted, lengthsPosted};
+ghost use Rattle.strands.specs.Strands.{slotSize, strandStart, roomForAll, haveRoom, posted, lengthsPosted};
+
+// The bytes that suffice for the strands of any number of processes: a slot for each participant.
+pub const ROOM_FOR_ALL: usize = (book::MOST_PROCESSES - 1)
+    * (message::HEAD_SIZE + (book::MOST_PROCESSES - 1) * message::PAIR_SIZE);
 
 // How many bytes the longest message of n processes takes.
 pub fn slot_size(n: usize) -> usize
     requires { ⌜ (1 ≤ n) × (n ≤ 16) ⌝ }
     ensures { λ r. ⌜ r ≡ slotSize n ⌝ }
-    ensures { λ r. ⌜ r ≤ 94 ⌝ }
+    ensures { λ r. ⌜ r ≤ slotSize mostProcesses ⌝ }
 {
-    4 + (n - 1) * (1 + book::GROUPS as usize)
+    message::HEAD_SIZE + (n - 1) * message::PAIR_SIZE
 }
 
 // Where process k's slot begins.
@@ -24,7 +29,7 @@ pub fn strand_start(n: usize, initiator: usize, k: usize) -> usize
     requires { ⌜ (1 ≤ n) × (n ≤ 16) ⌝ }
     requires { ⌜ k < 16 ⌝ }
     ensures { λ r. ⌜ r ≡ strandStart n initiator k ⌝ }
-    ensures { λ r. ⌜ r ≤ 1410 ⌝ }
+    ensures { λ r. ⌜ r ≤ roomForAll mostProcesses ⌝ }
 {
     let size = slot_size(n);
     if initiator < k {

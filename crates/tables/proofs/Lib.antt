@@ -1,11 +1,11 @@
 pub mod Answers
 pub mod Zeros
-pub mod CountTurns
-pub mod RowTurns
-pub mod ProcessTurns
-pub mod BookTurns
-pub mod UnusedTurns
+pub mod CountLoop
+pub mod RowLoop
+pub mod ProcessLoop
+pub mod BookLoop
+pub mod UnusedLoop
 pub mod Order
 pub mod Sweeps
-pub mod SoundTurns
+pub mod SoundLoop
 pub mod Passes

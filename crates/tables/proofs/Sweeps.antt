@@ -1,16 +1,16 @@
--- Turns of loops: of any loop, and of sweeps, which look at every place so that the compiler takes several at a time.
+-- Loops: any loop, and sweeps, which look at every place so that the compiler takes several at a time.
 use mathlib.Core.Path.{_≡_, subst}
 use mathlib.Core.Bool.{Bool, true}
 use Prim.Native.Nat.{ℕ, zero, suc, _+_, _≤_, _<_}
 use native.Mathlib.Numerals.{add-one}
 use native.Mathlib.Omega.{arith}
-use Rattle.lists.proofs.Fills.{below-more}
+use Rattle.lists.proofs.Before.{below-more}
 use Rattle.tables.specs.Sound.{Between}
 
--- what holds at first and is kept by every turn holds at the end
-pub turns : (P : ℕ → Type 0) (n : ℕ) → P 0 → ((k : ℕ) → k < n → P k → P (k + 1)) → P n
-turns P zero begun more = begun
-turns P (suc n) begun more = subst P (add-one n) (more n (omega arith) (turns P n begun (λ k h. more k (omega arith))))
+-- what holds at first and is kept each time holds at the end
+pub repeated : (P : ℕ → Type 0) (n : ℕ) → P 0 → ((k : ℕ) → k < n → P k → P (k + 1)) → P n
+repeated P zero begun more = begun
+repeated P (suc n) begun more = subst P (add-one n) (more n (omega arith) (repeated P n begun (λ k h. more k (omega arith))))
 
 -- `still` is true only while every place before i has the property
 pub record Swept (P : ℕ → Type 0) (from to i : ℕ) (still : Bool) : Type 0 where

@@ -1,16 +1,16 @@
--- Entries that are all zero: the turns of a loop that looks for another.
+-- Entries that are all zero: a loop that looks for another.
 use mathlib.Core.Path.{_≡_, refl, sym, ap, _∙_}
-use mathlib.Core.Bool.{Bool, true, false, _&&_}
+use mathlib.Core.Bool.{Bool, true, false, _&&_, and-true}
 use mathlib.Core.List.{List, [], _∷_, _++_}
-use Prim.Native.Nat.{ℕ, zero, suc, _+_, _-_, _≤_, _<_}
+use Prim.Native.Nat.{ℕ, _+_, _-_, _≤_, _<_}
 use native.Mathlib.Numerals.{add-one}
 use native.Mathlib.Omega.{arith}
-use borrow.Author.Tests.{eqb-true, eq-eqb, ne-eqb}
+use borrow.Author.Tests.{eq-eqb, ne-eqb}
 use lib.ListN.{length, take, getD, drop-of-length-le}
 use lib.Seq.{slice, slice-cons, length-slice, length-take-le, getD-take, getD-drop}
 use lib.Dec.{eqb}
 use Rattle.book.specs.Questions.{allZero}
-use Rattle.lists.proofs.Tests.{and-both}
+use Rattle.book.proofs.Zeros.{zero-at, zero-each}
 use Rattle.tables.specs.Sound.{Between}
 
 pub zero-none : allZero [] ≡ true
@@ -78,28 +78,14 @@ module _ (whole : Bool) (l : List ℕ) (to i : ℕ) (clear : Bool) (z : Clearing
             ∙ ap (λ (b : Bool). b && allZero (slice (i + 1) to l)) (sym e);
       }
 
-  kept : (c : Bool) → (c && true) ≡ c
-  kept true = refl
-  kept false = refl
-
   pub clearing-end : to ≤ i → clear ≡ whole
   clearing-end h =
       sym (z .rest
       ∙ ap (λ (b : Bool). clear && b)
       (ap allZero (drop-of-length-le (take to l) {i = i} (rw (length-take-le to l (z .fits)) h)) ∙ zero-none)
-      ∙ kept clear)
+      ∙ and-true clear)
 
 -- ---- one by one
-
-each-of : (l : List ℕ) → allZero l ≡ true → (k : ℕ) → getD l k 0 ≡ 0
-unfolding allZero
-each-of [] h k = refl
-each-of (v ∷ l) h zero = eqb-true v 0 (and-both (eqb v 0) (allZero l) h .0)
-each-of (v ∷ l) h (suc k) = each-of l (and-both (eqb v 0) (allZero l) h .1) k
-
-of-each : (l : List ℕ) → ((k : ℕ) → k < length l → getD l k 0 ≡ 0) → allZero l ≡ true
-of-each [] h = zero-none
-of-each (v ∷ l) h = zero-more v l (h 0 (omega arith)) ∙ of-each l (λ k m. h (suc k) (omega arith))
 
 module _ (from to : ℕ) (l : List ℕ) where
   getD-slice : (i : ℕ) → from ≤ i → i < to → getD (slice from to l) (i - from) 0 ≡ getD l i 0
@@ -108,10 +94,10 @@ module _ (from to : ℕ) (l : List ℕ) where
       getD-drop from (take to l) (i - from) 0 ∙ rw there (getD-take to l i 0 k)
 
   pub zeros-each : allZero (slice from to l) ≡ true → Between from to (λ i. getD l i 0 ≡ 0)
-  zeros-each z i h k = sym (getD-slice i h k) ∙ each-of (slice from to l) z (i - from)
+  zeros-each z i h k = sym (getD-slice i h k) ∙ zero-at (slice from to l) z (i - from)
 
   pub each-zeros : to ≤ length l → Between from to (λ i. getD l i 0 ≡ 0) → allZero (slice from to l) ≡ true
-  each-zeros fits z = of-each (slice from to l) one
+  each-zeros fits z = zero-each (slice from to l) one
     where
       one : (k : ℕ) → k < length (slice from to l) → getD (slice from to l) k 0 ≡ 0
       one k m =

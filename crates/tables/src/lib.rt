@@ -1,4 +1,6 @@
 // The questions that lent tables meet (document 01, questions 2 and 4 to 9), put by every call that takes tables.
+mod quick;
+
 use book::Answer;
 use book::Counter;
 use book::Shape;
@@ -7,17 +9,17 @@ ghost use mathlib.Core.Bool.{true, false, _&&_};
 ghost use Prim.Native.Nat.{_+_, _-_, _*_, _≤_, _<_};
 ghost use lib.ListN.{length, take, drop};
 ghost use lib.Dec.{eqb};
+ghost use Rattle.book.specs.Lent.{lent};
 ghost use Rattle.book.specs.Bounds.{mark};
 ghost use Rattle.book.specs.Tables.{others, checkpointsOf, processesOf};
-ghost use Rattle.book.specs.Check.{countsQuestion, rowsQuestion, tablesQuestion};
+ghost use Rattle.book.specs.Check.{countsQuestion, rowsQuestion, contentsQuestion, tablesQuestion};
 ghost use Rattle.book.specs.Layout.{joined};
 ghost use Rattle.book.specs.InTurn.{answerTo};
-ghost use Rattle.book.specs.Questions.{allZero, unusedOf, unusedFrom, unusedZero};
+ghost use Rattle.book.specs.Questions.{lengthQuestion, allZero, unusedOf, unusedFrom, unusedZero};
 ghost use Rattle.book.specs.Along.{countersQuestion, processQuestion};
 ghost use Rattle.book.specs.Fits.{RowsFit, BookFits};
 ghost use Rattle.book.specs.Before.{countersBefore};
 ghost use Rattle.tables.specs.Row.{RowFits};
-ghost use Rattle.tables.specs.Sound.{Between, Known, Rising, RowsSound, TableSound, Passed};
 
 // All of question 5: the first count that fails it, 0 for none.
 fn counts_question(shape: Shape) -> u32
@@ -42,17 +44,25 @@ fn counts_question(shape: Shape) -> u32
     0
 }
 
-// Questions 6 to 8 of the row of process j that starts at an entry of one table, given the row before it.
-fn row_question(table: &[Counter], start: usize, n: usize, j: usize, oldest: bool) -> u32
+// Questions 6 to 8 of the row of process j that starts at an entry of one table, given the row before it: an oldest row has none
+// before it; `zeros` says whether question 7 is asked.
+fn row_question(
+    table: &[Counter],
+    start: usize,
+    n: usize,
+    j: usize,
+    oldest: bool,
+    zeros: bool,
+) -> u32
     requires { ⌜ RowFits oldest n j start (now table) ⌝ }
-    ensures { λ r. ⌜ r ≡ countersQuestion mark oldest (countersBefore oldest n j start (now (table .entry))) (others n j (drop start (now (table .entry)))) ⌝ }
+    ensures { λ r. ⌜ r ≡ countersQuestion mark zeros (countersBefore oldest n j start (now (table .entry))) (others n j (drop start (now (table .entry)))) ⌝ }
 {
     let mut k = 0;
     while k < n - 1 {
         let at = start + book::partner_column(j, k);
         let v = book::wide(table[at]);
         let before = book::entry_before(table, at, oldest);
-        let question = book::counter_question(book::MARK, oldest, before, v);
+        let question = book::counter_question(book::MARK, zeros, before, v);
         if question != 0 {
             return question;
         }
@@ -77,11 +87,12 @@ fn process_question(
     let mut r = 0;
     while r < count {
         let start = (first + r) * book::ROW_WIDTH;
-        let in_sent = row_question(sent, start, n, j, r == 0);
+        let oldest = r == 0;
+        let in_sent = row_question(sent, start, n, j, oldest, book::sent_zeros(oldest));
         if in_sent != 0 {
             return in_sent;
         }
-        let in_received = row_question(received, start, n, j, r == 0);
+        let in_received = row_question(received, start, n, j, oldest, book::received_zeros(oldest));
         if in_received != 0 {
             return in_received;
         }
@@ -198,7 +209,7 @@ fn unused_zero(shape: Shape, table: &[Counter]) -> bool
 fn everything_unused_zero(shape: Shape, sent: &[Counter], received: &[Counter]) -> bool
     requires { ⌜ BookFits (shape .n) (shape .counts) (now sent) ⌝ }
     requires { ⌜ BookFits (shape .n) (shape .counts) (now received) ⌝ }
-    ensures { λ r. ⌜ r ≡ unusedZero shape (now (sent .entry)) (now (received .entry)) ⌝ }
+    ensures { λ r. ⌜ r ≡ unusedZero (lent shape (now (sent .entry)) (now (received .entry))) ⌝ }
 {
     if !absent_zero(shape) {
         return false;
@@ -209,123 +220,9 @@ fn everything_unused_zero(shape: Shape, sent: &[Counter], received: &[Counter]) 
     unused_zero(shape, received)
 }
 
-// Still no mark after one more entry?
-fn still_known(known: bool, v: Counter) -> bool
-    ensures { λ r. ⌜ (r ≡ true → (known ≡ true) × (v < mark)) ⌝ }
-{
-    if v == book::MARK as Counter {
-        return false;
-    }
-    known
-}
-
-// Is no entry the mark, from a place up to another?
-fn none_mark(table: &[Counter], from: usize, to: usize) -> bool
-    requires { ⌜ (from ≤ to) × (to ≤ length (now table)) ⌝ }
-    ensures { λ r. ⌜ (r ≡ true → Between from to (Known (now (table .entry)))) ⌝ }
-{
-    let mut known = true;
-    let mut i = from;
-    while i < to {
-        known = still_known(known, table[i]);
-        i += 1;
-    }
-    known
-}
-
-// Still rising after one more entry?
-fn still_rising(rising: bool, before: Counter, v: Counter) -> bool
-    ensures { λ r. ⌜ (r ≡ true → (rising ≡ true) × (before ≤ v)) ⌝ }
-{
-    if v < before {
-        return false;
-    }
-    rising
-}
-
-// Is no entry, from a place up to another, lower than the one a row before?
-fn all_rising(table: &[Counter], from: usize, to: usize) -> bool
-    requires { ⌜ (16 ≤ from) × (from ≤ to) × (to ≤ length (now table)) ⌝ }
-    ensures { λ r. ⌜ (r ≡ true → Between from to (Rising (now (table .entry)))) ⌝ }
-{
-    let mut rising = true;
-    let mut i = from;
-    while i < to {
-        let row_before = i - book::ROW_WIDTH;
-        rising = still_rising(rising, table[row_before], table[i]);
-        i += 1;
-    }
-    rising
-}
-
-// Are the rows of process j sound? Since they rise, the newest tells of marks and of what is unused in all of them.
-fn process_sound(table: &[Counter], first: usize, n: usize, j: usize, count: usize) -> bool
-    requires { ⌜ RowsFit n j first count (now table) ⌝ }
-    requires { ⌜ 1 ≤ count ⌝ }
-    ensures { λ r. ⌜ (r ≡ true → RowsSound n j first count (now (table .entry))) ⌝ }
-{
-    let oldest = first * book::ROW_WIDTH;
-    let second = oldest + book::ROW_WIDTH;
-    let end = (first + count) * book::ROW_WIDTH;
-    let newest = end - book::ROW_WIDTH;
-    if !all_zero(table, oldest, second) {
-        return false;
-    }
-    if !all_rising(table, second, end) {
-        return false;
-    }
-    if !none_mark(table, newest, end) {
-        return false;
-    }
-    let own = newest + j;
-    if table[own] != 0 {
-        return false;
-    }
-    all_zero(table, newest + n, end)
-}
-
-// Is one table sound?
-fn table_sound(shape: Shape, table: &[Counter]) -> bool
-    requires { ⌜ BookFits (shape .n) (shape .counts) (now table) ⌝ }
-    requires { ⌜ countsQuestion 0 (take (shape .n) (shape .counts)) ≡ 0 ⌝ }
-    ensures { λ r. ⌜ (r ≡ true → TableSound (shape .n) (shape .counts) (now (table .entry))) ⌝ }
-{
-    let n = shape.n;
-    let counts = shape.counts;
-    let mut first = 0;
-    let mut j = 0;
-    while j < n {
-        let count = counts[j];
-        let is_sound = process_sound(table, first, n, j, count);
-        if !is_sound {
-            return false;
-        }
-        first += count;
-        j += 1;
-    }
-    let end = first * book::ROW_WIDTH;
-    all_zero(table, end, book::ENTRIES)
-}
-
-// Does no question from 6 to 9 fail? Almost all tables pass, and this looks at several entries at a time; which question fails is looked for only after a no.
-fn sound(shape: Shape, sent: &[Counter], received: &[Counter]) -> bool
-    requires { ⌜ BookFits (shape .n) (shape .counts) (now sent) ⌝ }
-    requires { ⌜ BookFits (shape .n) (shape .counts) (now received) ⌝ }
-    requires { ⌜ countsQuestion 0 (take (shape .n) (shape .counts)) ≡ 0 ⌝ }
-    ensures { λ r. ⌜ (r ≡ true → Passed shape (now (sent .entry)) (now (received .entry))) ⌝ }
-{
-    if !absent_zero(shape) {
-        return false;
-    }
-    if !table_sound(shape, sent) {
-        return false;
-    }
-    table_sound(shape, received)
-}
-
-// The first question that the tables fail, 0 for none.
-pub fn question(shape: Shape, sent: &[Counter], received: &[Counter]) -> u32
-    ensures { λ r. ⌜ r ≡ tablesQuestion shape (now (sent .entry)) (now (received .entry)) ⌝ }
+// Question 2, 0 where it passes.
+pub fn length_question(sent: &[Counter], received: &[Counter]) -> u32
+    ensures { λ r. ⌜ r ≡ lengthQuestion (now (sent .entry)) (now (received .entry)) ⌝ }
 {
     if sent.len() != book::ENTRIES {
         return 2;
@@ -333,6 +230,14 @@ pub fn question(shape: Shape, sent: &[Counter], received: &[Counter]) -> u32
     if received.len() != book::ENTRIES {
         return 2;
     }
+    0
+}
+
+// The first of the questions after 2 that tables of that length fail, 0 for none.
+pub fn contents_question(shape: Shape, sent: &[Counter], received: &[Counter]) -> u32
+    requires { ⌜ (length (now sent) ≡ 4096) × (length (now received) ≡ 4096) ⌝ }
+    ensures { λ r. ⌜ r ≡ contentsQuestion (lent shape (now (sent .entry)) (now (received .entry))) ⌝ }
+{
     let n = shape.n;
     if n < 1 {
         return 4;
@@ -344,7 +249,7 @@ pub fn question(shape: Shape, sent: &[Counter], received: &[Counter]) -> u32
     if of_counts != 0 {
         return of_counts;
     }
-    if sound(shape, sent, received) {
+    if quick::sound(shape, sent, received) {
         return 0;
     }
     let of_rows = rows_question(shape, sent, received);
@@ -358,9 +263,20 @@ pub fn question(shape: Shape, sent: &[Counter], received: &[Counter]) -> u32
     0
 }
 
+// The first question that the tables fail, 0 for none.
+pub fn question(shape: Shape, sent: &[Counter], received: &[Counter]) -> u32
+    ensures { λ r. ⌜ r ≡ tablesQuestion (lent shape (now (sent .entry)) (now (received .entry))) ⌝ }
+{
+    let of_lengths = length_question(sent, received);
+    if of_lengths != 0 {
+        return of_lengths;
+    }
+    contents_question(shape, sent, received)
+}
+
 // Do lent tables pass?
 pub fn check(shape: Shape, sent: &[Counter], received: &[Counter]) -> Answer
-    ensures { λ r. ⌜ r ≡ answerTo (tablesQuestion shape (now (sent .entry)) (now (received .entry))) ⌝ }
+    ensures { λ r. ⌜ r ≡ answerTo (tablesQuestion (lent shape (now (sent .entry)) (now (received .entry)))) ⌝ }
 {
     let question = question(shape, sent, received);
     if question != 0 {

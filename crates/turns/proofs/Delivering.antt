@@ -7,7 +7,7 @@ use native.Mathlib.Omega.{arith}
 use borrow.Author.Tests.{eqb-true, ne-eqb, ltb-true, leb-true}
 use lib.ListN.{length, take, drop}
 use lib.Dec.{eqb, ltb, leb}
-use Rattle.book.specs.declared.Shape.{Shape}
+use Rattle.book.specs.Lent.{Tables, lent}
 use Rattle.book.specs.declared.TableRows.{TableRows}
 use Rattle.lists.proofs.Tests.{and-both}
 use Rattle.lists.specs.Over.{allTo}
@@ -15,8 +15,7 @@ use Rattle.lists.proofs.Over.{all-in}
 use Rattle.line_theory.proofs.Accepted.{accepted-size}
 use Rattle.lists.specs.Pick.{pick}
 use Rattle.machine.specs.Own.{ownOf}
-use Rattle.machine.specs.Named.{isParticipant, countLimit}
-use Rattle.machine.proofs.Calls.{given-of}
+use Rattle.machine.specs.Named.{isParticipant, tallyLimit}
 use Rattle.participant.specs.Calls as participant
 use Rattle.initiator.specs.Fits as initiator
 use Rattle.initiator.specs.Calls.{messageQuestion}
@@ -31,33 +30,33 @@ use Rattle.session.specs.Workers.{initiatorOf, participantAt}
 use Rattle.session.specs.Held.{senderIn, endsSearch, heldDown, heldUp, waitingBytes, held, isReport}
 use Rattle.session.specs.Fits.{initiatorFits, participantFits, strandWithin, strandFits, isAbsent, placeFits, sessionFits}
 use Rattle.session.specs.Steps.{deliver, deliverDown, deliverUp}
-use Rattle.session_check.specs.Parts.{TablesGiven}
+use Rattle.book.specs.Accepted.{AcceptedRows}
 use Rattle.turns.specs.Parts.{Deliverable}
 
 -- ---- what fits
 
-module _ (shape : Shape) (sent received : List ℕ) (session : Session) (strands : List ℕ)
-    (fits : sessionFits shape sent received session strands ≡ true) where
+module _ (tables : Tables) (session : Session) (strands : List ℕ)
+    (fits : sessionFits tables session strands ≡ true) where
   abbrev of-initiator : Bool
-  of-initiator = initiatorFits shape sent received session
+  of-initiator = initiatorFits tables session
 
   abbrev of-places : Bool
-  of-places = allTo 16 (placeFits shape sent received session strands)
+  of-places = allTo 16 (placeFits tables session strands)
 
   abbrev of-count : Bool
-  of-count = ltb (session .delivered) countLimit
+  of-count = ltb (session .delivered) tallyLimit
 
   parts : (of-initiator ≡ true) × ((of-places && of-count) ≡ true)
   unfolding sessionFits
   parts =
       and-both of-initiator (of-places && of-count)
-      (and-both (eqb (session .n) (shape .n)) (of-initiator && (of-places && of-count)) fits .1)
+      (and-both (eqb (session .n) (tables .shape .n)) (of-initiator && (of-places && of-count)) fits .1)
 
-  fits-delivered : session .delivered < countLimit
-  fits-delivered = ltb-true (session .delivered) countLimit (and-both of-places of-count (parts .1) .1)
+  fits-delivered : session .delivered < tallyLimit
+  fits-delivered = ltb-true (session .delivered) tallyLimit (and-both of-places of-count (parts .1) .1)
 
   abbrev its-fits : Bool
-  its-fits = initiator.fits (ownOf shape sent received (initiatorOf session)) (session .machine)
+  its-fits = initiator.fits (ownOf tables (initiatorOf session)) (session .machine)
 
   of-machine : (eqb (session .machine .me .0) (session .initiator .0) ≡ true) × (its-fits ≡ true)
   unfolding initiatorFits
@@ -69,31 +68,31 @@ module _ (shape : Shape) (sent received : List ℕ) (session : Session) (strands
   fits-me : session .machine .me .0 ≡ session .initiator .0
   fits-me = eqb-true (session .machine .me .0) (session .initiator .0) (of-machine .0)
 
-  pub fits-size : session .machine .n ≡ shape .n
-  fits-size = fitting-size (ownOf shape sent received (initiatorOf session)) (session .machine) (of-machine .1)
+  pub fits-size : session .machine .n ≡ tables .shape .n
+  fits-size = fitting-size (ownOf tables (initiatorOf session)) (session .machine) (of-machine .1)
 
-  fits-rounds : session .machine .rounds < countLimit
-  fits-rounds = fitting-rounds (ownOf shape sent received (initiatorOf session)) (session .machine) (of-machine .1)
+  fits-rounds : session .machine .rounds < tallyLimit
+  fits-rounds = fitting-rounds (ownOf tables (initiatorOf session)) (session .machine) (of-machine .1)
 
-  module _ (k : ℕ) (there : isParticipant (shape .n) (initiatorOf session) k ≡ true) (few : k < 16) where
+  module _ (k : ℕ) (there : isParticipant (tables .shape .n) (initiatorOf session) k ≡ true) (few : k < 16) where
     abbrev of-its : Bool
-    of-its = participantFits shape sent received session k
+    of-its = participantFits tables session k
 
     abbrev of-strand : Bool
-    of-strand = strandFits session k (held (shape .n) session k (waitingBytes (shape .n) session strands k))
+    of-strand = strandFits session k (held (tables .shape .n) session k (waitingBytes (tables .shape .n) session strands k))
 
     abbrev is-within : Bool
-    is-within = strandWithin (shape .n) session strands k
+    is-within = strandWithin (tables .shape .n) session strands k
 
     its-place : (of-its && (is-within && of-strand)) ≡ true
     unfolding placeFits
     its-place =
         let no-place : Bool = isAbsent (participantAt session k) && eqb (lengthOn (session .lengths) k) 0 in
-        let chosen : pick (isParticipant (shape .n) (initiatorOf session) k) (of-its && (is-within && of-strand)) no-place ≡ (of-its && (is-within && of-strand)) =
+        let chosen : pick (isParticipant (tables .shape .n) (initiatorOf session) k) (of-its && (is-within && of-strand)) no-place ≡ (of-its && (is-within && of-strand)) =
         ap (λ (b : Bool). pick b (of-its && (is-within && of-strand)) no-place) there in
-        sym chosen ∙ all-in 16 (placeFits shape sent received session strands) (and-both of-places of-count (parts .1) .0) k few
+        sym chosen ∙ all-in 16 (placeFits tables session strands) (and-both of-places of-count (parts .1) .0) k few
 
-    pub fits-within : strandWithin (shape .n) session strands k ≡ true
+    pub fits-within : strandWithin (tables .shape .n) session strands k ≡ true
     fits-within = and-both is-within of-strand (and-both of-its (is-within && of-strand) its-place .1) .0
 
     fits-its : (participantAt session k .me .0 ≡ suc k) × (participantAt session k .initiator .0 ≡ session .initiator .0)
@@ -107,24 +106,24 @@ module _ (shape : Shape) (sent received : List ℕ) (session : Session) (strands
         (eqb-true (p .me .0) (suc k) (all .0), eqb-true (p .initiator .0) (session .initiator .0) (rest .0))
 
 pub deliverable : (rows : TableRows) (sent received : List ℕ) (session : Session) (strands : List ℕ) (k : ℕ)
-    → length (rows .shape .counts) ≡ 16 → TablesGiven rows sent received
-    → sessionFits (rows .shape) sent received session strands ≡ true
+    → AcceptedRows rows sent received → sessionFits (lent (rows .shape) sent received) session strands ≡ true
     → (1 ≤ session .initiator .0) × (session .initiator .0 ≤ rows .shape .n)
     → isParticipant (rows .shape .n) (initiatorOf session) k ≡ true → Deliverable rows sent received session k
-deliverable rows sent received session strands k sixteen given fits named there =
-    let size = accepted-size (rows .shape) sent received (given .accepted) in
+deliverable rows sent received session strands k given fits named there =
+    let size = accepted-size (given .accepted) in
     let below = participant-there (rows .shape .n) (initiatorOf session) k there in
     let few : k < 16 = omega (arith, size, below) in
-    let its = fits-its (rows .shape) sent received session strands fits k there few in
+    let its = fits-its (lent (rows .shape) sent received) session strands fits k there few in
     record {
-      to-it = given-of (rows .shape) sent received rows (suc k) sixteen (given .accepted) refl (given .starts) (omega (arith, below));
-      to-initiator = given-of (rows .shape) sent received rows (session .initiator .0) sixteen (given .accepted) refl (given .starts) named;
+      given = given;
+      to-it = omega (arith, below);
+      to-initiator = named;
       its-place = its .0;
       its-initiator = its .1;
       there = omega (arith, named, size);
-      counted = (few, fits-delivered (rows .shape) sent received session strands fits);
-      own-place = fits-me (rows .shape) sent received session strands fits;
-      rounds = fits-rounds (rows .shape) sent received session strands fits;
+      counted = (few, fits-delivered (lent (rows .shape) sent received) session strands fits);
+      own-place = fits-me (lent (rows .shape) sent received) session strands fits;
+      rounds = fits-rounds (lent (rows .shape) sent received) session strands fits;
     }
 
 -- ---- the bytes of a strand
@@ -177,15 +176,14 @@ module _ (n : ℕ) (session : Session) (k : ℕ) (s : List ℕ) where
 
 -- ---- what is handed over
 
-module _ (shape : Shape) (sent received : List ℕ) (session : Session) (k : ℕ) where
+module _ (tables : Tables) (session : Session) (k : ℕ) where
   -- the part of the buffer that is handed over is the strand
-  pub handed-over : (s t : List ℕ) (w : Waiting) (turned : Turned) → s ≡ t → w ≡ held (shape .n) session k t
-      → turned ≡ deliver shape sent received session k s w
-      → turned ≡ deliver shape sent received session k t (held (shape .n) session k t)
-  handed-over s t w turned e f g = g ∙ (λ i. deliver shape sent received session k (e i) (f i))
+  pub handed-over : (s t : List ℕ) (w : Waiting) (turned : Turned) → s ≡ t → w ≡ held (tables .shape .n) session k t
+      → turned ≡ deliver tables session k s w → turned ≡ deliver tables session k t (held (tables .shape .n) session k t)
+  handed-over s t w turned e f g = g ∙ (λ i. deliver tables session k (e i) (f i))
 
   -- a delivery leaves the session's initiator
-  pub same-initiator : (s : List ℕ) (w : Waiting) → deliver shape sent received session k s w .session .initiator ≡ session .initiator
+  pub same-initiator : (s : List ℕ) (w : Waiting) → deliver tables session k s w .session .initiator ≡ session .initiator
   unfolding deliverDown deliverUp
   same-initiator s Nothing = refl
   same-initiator s Asking = refl

@@ -4,8 +4,8 @@ use mathlib.Core.List.{List}
 use Prim.Native.Nat.{ℕ, suc, _-_, _≤_, _<_}
 use Rattle.book.specs.declared.TableRows.{TableRows}
 use Rattle.book.specs.InTurn.{ask}
-use Rattle.machine.specs.Named.{countLimit}
-use Rattle.machine.specs.Given.{Given}
+use Rattle.book.specs.Accepted.{AcceptedRows, IsProcess}
+use Rattle.machine.specs.Named.{tallyLimit}
 use Rattle.strands.specs.Strands.{haveRoom, posted}
 use Rattle.session.specs.declared.Session.{Session}
 use Rattle.session.specs.declared.Turned.{Turned}
@@ -13,14 +13,15 @@ use Rattle.session.specs.Workers.{participantAt}
 
 -- a session at whose participant k a message can be delivered, either way
 pub record Deliverable (rows : TableRows) (sent received : List ℕ) (session : Session) (k : ℕ) : Type 0 where
-  pub to-it : Given rows sent received (suc k)
-  pub to-initiator : Given rows sent received (session .initiator .0)
+  pub given : AcceptedRows rows sent received
+  pub to-it : IsProcess rows (suc k)
+  pub to-initiator : IsProcess rows (session .initiator .0)
   pub its-place : participantAt session k .me .0 ≡ suc k
   pub its-initiator : participantAt session k .initiator .0 ≡ session .initiator .0
   pub there : (1 ≤ session .initiator .0) × (session .initiator .0 ≤ 16)
-  pub counted : (k < 16) × (session .delivered < countLimit)
+  pub counted : (k < 16) × (session .delivered < tallyLimit)
   pub own-place : session .machine .me .0 ≡ session .initiator .0
-  pub rounds : session .machine .rounds < countLimit
+  pub rounds : session .machine .rounds < tallyLimit
 
 -- question 17 of what a step sends, and the strands with it
 abbrev pub initiatorThen : Turned → ℕ

@@ -7,13 +7,14 @@ use session::Waiting;
 ghost use mathlib.Core.Path.{_≡_};
 ghost use mathlib.Core.Bool.{true};
 ghost use Prim.Native.Nat.{_≤_};
+ghost use Rattle.book.specs.Lent.{lent};
+ghost use Rattle.book.specs.Accepted.{AcceptedRows};
 ghost use Rattle.machine.specs.Named.{isParticipant};
 ghost use Rattle.strands.specs.Strands.{lengthOn};
 ghost use Rattle.session.specs.Workers.{initiatorOf};
 ghost use Rattle.session.specs.Held.{waitingBytes, held};
 ghost use Rattle.session.specs.Fits.{sessionFits};
 ghost use Rattle.session.specs.Steps.{deliver};
-ghost use Rattle.session_check.specs.Parts.{TablesGiven};
 ghost use Rattle.turns.specs.Parts.{Deliverable};
 
 // The message goes to the participant or to the initiator, or is none.
@@ -28,7 +29,7 @@ fn hand_over(
 ) -> Turned
     requires { ⌜ Deliverable rows (now sent) (now received) session k ⌝ }
     requires { ⌜ w ≡ held (rows .shape .n) session k (now s) ⌝ }
-    ensures { λ r. ⌜ r ≡ deliver (rows .shape) (now (sent .entry)) (now (received .entry)) session k (now (s .entry)) w ⌝ }
+    ensures { λ r. ⌜ r ≡ deliver (lent (rows .shape) (now (sent .entry)) (now (received .entry))) session k (now (s .entry)) w ⌝ }
 {
     match w {
         Waiting::Nothing => session_steps::as_before(session),
@@ -48,12 +49,12 @@ pub(crate) fn deliver(
     k: usize,
     strands: &[u8],
 ) -> Turned
-    requires { ⌜ TablesGiven rows (now sent) (now received) ⌝ }
-    requires { ⌜ sessionFits (rows .shape) (now sent) (now received) session (now strands) ≡ true ⌝ }
+    requires { ⌜ AcceptedRows rows (now sent) (now received) ⌝ }
+    requires { ⌜ sessionFits (lent (rows .shape) (now sent) (now received)) session (now strands) ≡ true ⌝ }
     requires { ⌜ (1 ≤ session .initiator .0) × (session .initiator .0 ≤ rows .shape .n) ⌝ }
     requires { ⌜ isParticipant (rows .shape .n) (initiatorOf session) k ≡ true ⌝ }
     requires { ⌜ (lengthOn (session .lengths) k ≡ 0 → ⊥) ⌝ }
-    ensures { λ r. ⌜ r ≡ deliver (rows .shape) (now (sent .entry)) (now (received .entry)) session k (waitingBytes (rows .shape .n) session (now (strands .entry)) k) (held (rows .shape .n) session k (waitingBytes (rows .shape .n) session (now (strands .entry)) k)) ⌝ }
+    ensures { λ r. ⌜ r ≡ deliver (lent (rows .shape) (now (sent .entry)) (now (received .entry))) session k (waitingBytes (rows .shape .n) session (now (strands .entry)) k) (held (rows .shape .n) session k (waitingBytes (rows .shape .n) session (now (strands .entry)) k)) ⌝ }
 {
     let shape = rows.shape;
     let initiator = session.initiator;

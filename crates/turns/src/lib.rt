@@ -12,13 +12,14 @@ use session::Turned;
 ghost use mathlib.Core.Path.{_≡_};
 ghost use mathlib.Core.Bool.{true, _&&_};
 ghost use Prim.Native.Nat.{_-_, _≤_};
+ghost use Rattle.book.specs.Lent.{lent};
+ghost use Rattle.book.specs.Accepted.{AcceptedRows};
 ghost use Rattle.book.specs.InTurn.{_then_, ask, answerTo, unlessRefused};
 ghost use Rattle.machine.specs.Named.{participantNamed};
 ghost use Rattle.strands.specs.Strands.{haveRoom, posted};
 ghost use Rattle.session.specs.Fits.{sessionNamed, sessionPurposes, sessionFits};
 ghost use Rattle.session.specs.Steps.{withPosted};
 ghost use Rattle.session.specs.Calls.{startQuestion, sessionStarted, strandsStarted, turnQuestion, sessionAfter, strandsAfter};
-ghost use Rattle.session_check.specs.Parts.{TablesGiven};
 ghost use Rattle.turns.specs.Parts.{roomAsked, strandsWith};
 
 // The question that refuses, with the session beside it.
@@ -79,9 +80,9 @@ pub fn start(
     purpose: u64,
     strands: &mut [u8],
 ) -> SessionAnswer
-    ensures { λ r. ⌜ r .answer ≡ answerTo (startQuestion shape (now (sent .entry)) (now (received .entry)) initiator purpose (now (strands .entry))) ⌝ }
-    ensures { λ r. ⌜ r .session ≡ sessionStarted shape (now (sent .entry)) (now (received .entry)) initiator purpose (now (strands .entry)) ⌝ }
-    ensures { λ _. ⌜ now (strands .exit) ≡ strandsStarted shape (now (sent .entry)) (now (received .entry)) initiator purpose (now (strands .entry)) ⌝ }
+    ensures { λ r. ⌜ r .answer ≡ answerTo (startQuestion (lent shape (now (sent .entry)) (now (received .entry))) initiator purpose (now (strands .entry))) ⌝ }
+    ensures { λ r. ⌜ r .session ≡ sessionStarted (lent shape (now (sent .entry)) (now (received .entry))) initiator purpose (now (strands .entry)) ⌝ }
+    ensures { λ _. ⌜ now (strands .exit) ≡ strandsStarted (lent shape (now (sent .entry)) (now (received .entry))) initiator purpose (now (strands .entry)) ⌝ }
 {
     let none = session_steps::no_session();
     let question = tables::question(shape, sent, received);
@@ -106,9 +107,9 @@ pub fn take_start(
     purpose: u64,
     strands: &mut [u8],
 ) -> Session
-    requires { ⌜ startQuestion shape (now sent) (now received) initiator purpose (now strands) ≡ 0 ⌝ }
-    ensures { λ r. ⌜ r ≡ sessionStarted shape (now (sent .entry)) (now (received .entry)) initiator purpose (now (strands .entry)) ⌝ }
-    ensures { λ _. ⌜ now (strands .exit) ≡ strandsStarted shape (now (sent .entry)) (now (received .entry)) initiator purpose (now (strands .entry)) ⌝ }
+    requires { ⌜ startQuestion (lent shape (now sent) (now received)) initiator purpose (now strands) ≡ 0 ⌝ }
+    ensures { λ r. ⌜ r ≡ sessionStarted (lent shape (now (sent .entry)) (now (received .entry))) initiator purpose (now (strands .entry)) ⌝ }
+    ensures { λ _. ⌜ now (strands .exit) ≡ strandsStarted (lent shape (now (sent .entry)) (now (received .entry))) initiator purpose (now (strands .entry)) ⌝ }
 {
     let rows = book::rows_of(shape);
     let turned = session_steps::begin(rows, sent, received, initiator, purpose);
@@ -124,8 +125,8 @@ fn session_question(
     p: Process,
     strands: &[u8],
 ) -> u32
-    requires { ⌜ TablesGiven rows (now sent) (now received) ⌝ }
-    ensures { λ r. ⌜ r ≡ (ask 10 (participantNamed (rows .shape .n) (p .0) (session .initiator .0) && sessionNamed (rows .shape .n) session) then λ _. ask 11 (sessionPurposes session) then λ _. ask 13 (sessionFits (rows .shape) (now (sent .entry)) (now (received .entry)) session (now (strands .entry)))) ⌝ }
+    requires { ⌜ AcceptedRows rows (now sent) (now received) ⌝ }
+    ensures { λ r. ⌜ r ≡ (ask 10 (participantNamed (rows .shape .n) (p .0) (session .initiator .0) && sessionNamed (rows .shape .n) session) then λ _. ask 11 (sessionPurposes session) then λ _. ask 13 (sessionFits (lent (rows .shape) (now (sent .entry)) (now (received .entry))) session (now (strands .entry)))) ⌝ }
 {
     let shape = rows.shape;
     let initiator = session.initiator;
@@ -154,9 +155,9 @@ pub fn turn(
     p: Process,
     strands: &mut [u8],
 ) -> SessionAnswer
-    ensures { λ r. ⌜ r .answer ≡ answerTo (turnQuestion shape (now (sent .entry)) (now (received .entry)) session p (now (strands .entry))) ⌝ }
-    ensures { λ r. ⌜ r .session ≡ sessionAfter shape (now (sent .entry)) (now (received .entry)) session p (now (strands .entry)) ⌝ }
-    ensures { λ _. ⌜ now (strands .exit) ≡ strandsAfter shape (now (sent .entry)) (now (received .entry)) session p (now (strands .entry)) ⌝ }
+    ensures { λ r. ⌜ r .answer ≡ answerTo (turnQuestion (lent shape (now (sent .entry)) (now (received .entry))) session p (now (strands .entry))) ⌝ }
+    ensures { λ r. ⌜ r .session ≡ sessionAfter (lent shape (now (sent .entry)) (now (received .entry))) session p (now (strands .entry)) ⌝ }
+    ensures { λ _. ⌜ now (strands .exit) ≡ strandsAfter (lent shape (now (sent .entry)) (now (received .entry))) session p (now (strands .entry)) ⌝ }
 {
     let question = tables::question(shape, sent, received);
     if question != 0 {
@@ -185,10 +186,10 @@ pub fn take_turn(
     p: Process,
     strands: &mut [u8],
 ) -> Session
-    requires { ⌜ TablesGiven rows (now sent) (now received) ⌝ }
-    requires { ⌜ turnQuestion (rows .shape) (now sent) (now received) session p (now strands) ≡ 0 ⌝ }
-    ensures { λ r. ⌜ r ≡ sessionAfter (rows .shape) (now (sent .entry)) (now (received .entry)) session p (now (strands .entry)) ⌝ }
-    ensures { λ _. ⌜ now (strands .exit) ≡ strandsAfter (rows .shape) (now (sent .entry)) (now (received .entry)) session p (now (strands .entry)) ⌝ }
+    requires { ⌜ AcceptedRows rows (now sent) (now received) ⌝ }
+    requires { ⌜ turnQuestion (lent (rows .shape) (now sent) (now received)) session p (now strands) ≡ 0 ⌝ }
+    ensures { λ r. ⌜ r ≡ sessionAfter (lent (rows .shape) (now (sent .entry)) (now (received .entry))) session p (now (strands .entry)) ⌝ }
+    ensures { λ _. ⌜ now (strands .exit) ≡ strandsAfter (lent (rows .shape) (now (sent .entry)) (now (received .entry))) session p (now (strands .entry)) ⌝ }
 {
     let shape = rows.shape;
     let turned = deliver::deliver(session, rows, sent, received, p.0 - 1, strands);

@@ -1,13 +1,14 @@
 -- A participant's state: there and back.
 use mathlib.Core.Path.{_≡_, refl, sym, ap, subst, _∙_}
 use mathlib.Core.Bool.{true}
-use mathlib.Core.List.{List, [], _∷_, _++_}
+use mathlib.Core.List.{List, _++_}
 use Prim.Native.Nat.{ℕ, zero, suc, _+_, _<_}
 use native.Mathlib.Nat.{add-zero}
 use native.Mathlib.Omega.{arith}
 use borrow.Author.Tests.{ltb-true, lt-ltb}
 use lib.Dec.{ltb}
 use lib.ListN.{length, length-append}
+use Rattle.book.specs.Bounds.{mostProcesses}
 use Rattle.lists.proofs.Tests.{and-both, both-and}
 use Rattle.lists.specs.Over.{tabFrom}
 use Rattle.lists.proofs.Over.{length-tab}
@@ -15,8 +16,8 @@ use Rattle.consistency.specs.Known.{counters}
 use Rattle.participant.specs.declared.Participant.{Participant}
 use Rattle.participant.specs.declared.Stage.{Stage}
 use Rattle.participant.specs.declared.Stage.the-variants.{Before, Searching, Ended}
-use Rattle.words.specs.Words.{word, allBelow, counterLimit, countWords, participantLength}
-use Rattle.words.specs.Participant.{stageWord, stageIn, participantWords, participantDecodes, participantFrom, participantIn}
+use Rattle.words.specs.Words.{word, allBelow, counterBound, countWords}
+use Rattle.words.specs.Participant.{processAt, initiatorAt, purposeAt, stageAt, candidateAt, rowAt, columnAt, participantLength, stageWord, stageIn, participantHead, participantWords, participantDecodes, participantFrom, participantIn}
 use Rattle.word_laws.specs.Values.{IsParticipant}
 use Rattle.word_laws.specs.Statements.{ParticipantBack, ParticipantForm}
 use Rattle.word_laws.proofs.Lying.{Lies, lies-self, lies-all, lies-first, lies-second, lies-both, lies-there}
@@ -42,22 +43,16 @@ stage-form (suc (suc w)) h = omega arith
 
 -- ---- the parts
 
-abbrev heading : Participant → List ℕ
-heading state =
-    state .n
-    ∷ (state .me .0
-    ∷ (state .initiator .0 ∷ (state .purpose ∷ (stageWord (state .stage) ∷ (state .candidate .0 ∷ [])))))
-
 abbrev rowWords : Participant → List ℕ
-rowWords state = countWords 16 (state .row)
+rowWords state = countWords mostProcesses (state .row)
 
 abbrev columnWords : Participant → List ℕ
-columnWords state = countWords 16 (state .column)
+columnWords state = countWords mostProcesses (state .column)
 
 pub record Parts (words : List ℕ) (at : ℕ) (state : Participant) : Type 0 where
-  pub first : Lies words at (heading state)
-  pub row : Lies words (at + 6) (rowWords state)
-  pub column : Lies words (at + 22) (columnWords state)
+  pub first : Lies words at (participantHead state)
+  pub row : Lies words (at + rowAt) (rowWords state)
+  pub column : Lies words (at + columnAt) (columnWords state)
 
 module _ (state : Participant) where
   abbrev counted : List ℕ
@@ -68,31 +63,31 @@ module _ (state : Participant) where
   participant-length =
       omega (
         arith,
-        length-append (heading state) counted,
+        length-append (participantHead state) counted,
         length-append (rowWords state) (columnWords state),
-        length-tab 16 (counters (state .row)),
-        length-tab 16 (counters (state .column)),
+        length-tab mostProcesses (counters (state .row)),
+        length-tab mostProcesses (counters (state .column)),
       )
 
   module _ (words : List ℕ) (at : ℕ) where
-    seam : at + 22 ≡ at + 6 + length (rowWords state)
-    seam = omega (arith, length-tab 16 (counters (state .row)))
+    seam : at + columnAt ≡ at + rowAt + length (rowWords state)
+    seam = omega (arith, length-tab mostProcesses (counters (state .row)))
 
     pub parts-in : Lies words at (participantWords state) → Parts words at state
     unfolding participantWords
     parts-in lies =
-        let rest : Lies words (at + 6) counted = lies-second (heading state) counted (at + 6) refl lies in
+        let rest : Lies words (at + rowAt) counted = lies-second (participantHead state) counted (at + rowAt) refl lies in
         record {
-          first = lies-first (heading state) counted (at + 6) refl lies;
-          row = lies-first (rowWords state) (columnWords state) (at + 22) seam rest;
-          column = lies-second (rowWords state) (columnWords state) (at + 22) seam rest;
+          first = lies-first (participantHead state) counted (at + rowAt) refl lies;
+          row = lies-first (rowWords state) (columnWords state) (at + columnAt) seam rest;
+          column = lies-second (rowWords state) (columnWords state) (at + columnAt) seam rest;
         }
 
     parts-out : Parts words at state → Lies words at (participantWords state)
     unfolding participantWords
     parts-out parts =
-        lies-both (heading state) counted (at + 6) refl (parts .first)
-        (lies-both (rowWords state) (columnWords state) (at + 22) seam (parts .row) (parts .column))
+        lies-both (participantHead state) counted (at + rowAt) refl (parts .first)
+        (lies-both (rowWords state) (columnWords state) (at + columnAt) seam (parts .row) (parts .column))
 
 -- ---- there and back, at a place
 
@@ -106,12 +101,12 @@ module _ {words : List ℕ} {at : ℕ} {state : Participant} (is : IsParticipant
       let n : word words at ≡ state .n = ap (word words) (sym (add-zero at)) ∙ parts .first .each 0 (omega arith) in
       rw (
         n,
-        parts .first .each 1 (omega arith),
-        parts .first .each 2 (omega arith),
-        parts .first .each 3 (omega arith),
-        parts .first .each 4 (omega arith),
+        parts .first .each processAt (omega arith),
+        parts .first .each initiatorAt (omega arith),
+        parts .first .each purposeAt (omega arith),
+        parts .first .each stageAt (omega arith),
         stage-back (state .stage),
-        parts .first .each 5 (omega arith),
+        parts .first .each candidateAt (omega arith),
         counts-back (is .row) (parts .row),
         counts-back (is .column) (parts .column),
       )
@@ -119,22 +114,22 @@ module _ {words : List ℕ} {at : ℕ} {state : Participant} (is : IsParticipant
   pub participant-decodes : participantDecodes words at ≡ true
   unfolding participantDecodes
   participant-decodes =
-      let stage : word words (at + 4) < 3 = subst (λ (w : ℕ). w < 3) (sym (parts .first .each 4 (omega arith))) (stage-few (state .stage)) in
-      both-and (ltb (word words (at + 4)) 3) (allBelow counterLimit words (at + 6) 32) (lt-ltb (word words (at + 4)) 3 stage)
-      (below-out (below-both 16 16 {next = at + 22} (omega arith) (counts-below (is .row) (parts .row)) (counts-below (is .column) (parts .column))))
+      let stage : word words (at + stageAt) < 3 = subst (λ (w : ℕ). w < 3) (sym (parts .first .each stageAt (omega arith))) (stage-few (state .stage)) in
+      both-and (ltb (word words (at + stageAt)) 3) (allBelow counterBound words (at + rowAt) (mostProcesses + mostProcesses)) (lt-ltb (word words (at + stageAt)) 3 stage)
+      (below-out (below-both mostProcesses mostProcesses {next = at + columnAt} (omega arith) (counts-below (is .row) (parts .row)) (counts-below (is .column) (parts .column))))
 
 pub participant-lies : (words : List ℕ) (at : ℕ) → participantDecodes words at ≡ true
     → Lies words at (participantWords (participantFrom (word words at) words at))
 unfolding participantDecodes participantFrom tabFrom
 participant-lies words at decodes =
-    let tests = and-both (ltb (word words (at + 4)) 3) (allBelow counterLimit words (at + 6) 32) decodes in
-    let stage = stage-form (word words (at + 4)) (ltb-true (word words (at + 4)) 3 (tests .0)) in
-    let below : Below counterLimit words (at + 6) 32 = below-in (tests .1) in
+    let tests = and-both (ltb (word words (at + stageAt)) 3) (allBelow counterBound words (at + rowAt) (mostProcesses + mostProcesses)) decodes in
+    let stage = stage-form (word words (at + stageAt)) (ltb-true (word words (at + stageAt)) 3 (tests .0)) in
+    let below : Below counterBound words (at + rowAt) (mostProcesses + mostProcesses) = below-in (tests .1) in
     parts-out (participantFrom (word words at) words at) words at
     (record {
-      first = rw stage (rw (add-zero at) at (lies-there words at 6));
-      row = counts-form (below-first 16 16 {next = at + 22} (omega arith) below);
-      column = counts-form (below-second 16 16 (omega arith) below);
+      first = rw stage (rw (add-zero at) at (lies-there words at rowAt));
+      row = counts-form (below-first mostProcesses mostProcesses {next = at + columnAt} (omega arith) below);
+      column = counts-form (below-second mostProcesses mostProcesses (omega arith) below);
     })
 
 -- ---- a slice

@@ -6,7 +6,7 @@ use Prim.Native.Nat.{ℕ}
 use native.Mathlib.Omega.{arith}
 use borrow.Author.Tests.{ne-eqb}
 use lib.Dec.{eqb}
-use Rattle.book.specs.declared.Shape.{Shape}
+use Rattle.book.specs.Lent.{Tables}
 use Rattle.book.specs.declared.Process.{Process}
 use Rattle.book.specs.InTurn.{_then_, ask}
 use Rattle.book.specs.Check.{tablesQuestion}
@@ -32,12 +32,12 @@ use Rattle.word_laws.specs.Statements.{ParticipantUndecoded, InitiatorUn
 
 -- ---- questions in turn, where 13 fails if 10 does not
 
-module _ (tables : ℕ) (named purpose fitting : Bool) (later : Unit {0} → ℕ) (unfit : named ≡ true → fitting ≡ false) where
+module _ (of-tables : ℕ) (named purpose fitting : Bool) (later : Unit {0} → ℕ) (unfit : named ≡ true → fitting ≡ false) where
   abbrev Refused : ℕ → Type 0
-  Refused question = (tables then λ _. question) ≡ (tables then λ _. ask 10 named then λ _. ask 11 purpose then λ _. 13)
+  Refused question = (of-tables then λ _. question) ≡ (of-tables then λ _. ask 10 named then λ _. ask 11 purpose then λ _. 13)
 
   refused : Refused (ask 10 named then λ _. ask 11 purpose then λ _. ask 13 fitting then later)
-  refused = ap (λ (q : ℕ). tables then λ _. q) (go named refl)
+  refused = ap (λ (q : ℕ). of-tables then λ _. q) (go named refl)
     where
       go : (t : Bool) → named ≡ t
           → (ask 10 named then λ _. ask 11 purpose then λ _. ask 13 fitting then later) ≡ (ask 10 named then λ _. ask 11 purpose then λ _. 13)
@@ -47,7 +47,7 @@ module _ (tables : ℕ) (named purpose fitting : Bool) (later : Unit {0} → ℕ
   -- where the questions of a state are taken together
   refused-together : Refused ((ask 10 named then λ _. ask 11 purpose then λ _. ask 13 fitting) then later)
   refused-together =
-      ap (λ (q : ℕ). tables then λ _. q)
+      ap (λ (q : ℕ). of-tables then λ _. q)
       (then-assoc (ask 10 named) (λ _. ask 11 purpose then λ _. ask 13 fitting) later
       ∙ ap (λ (q : ℕ). ask 10 named then λ _. q) (then-assoc (ask 11 purpose) (λ _. ask 13 fitting) later))
       ∙ refused
@@ -70,64 +70,63 @@ initiator-unfit : (own : Own) (state : Initiator) → eqb (state .n) (own .n) �
 unfolding initiator.fits
 initiator-unfit own state h = rw h
 
-session-unfit : (shape : Shape) (sent received : List ℕ) (session : Session) (strands : List ℕ) → eqb (session .n) (shape .n) ≡ false
-    → sessionFits shape sent received session strands ≡ false
+session-unfit : (tables : Tables) (session : Session) (strands : List ℕ) → eqb (session .n) (tables .shape .n) ≡ false
+    → sessionFits tables session strands ≡ false
 unfolding sessionFits
-session-unfit shape sent received session strands h = rw h
+session-unfit tables session strands h = rw h
 
-module _ (shape : Shape) (sent received : List ℕ) where
-  abbrev tables : ℕ
-  tables = tablesQuestion shape sent received
+module _ (tables : Tables) where
+  abbrev of-tables : ℕ
+  of-tables = tablesQuestion tables
 
   participant-refused : (state : Participant) (message out : List ℕ) → state .n ≡ 0
-      → participant-calls.receiveQuestion shape sent received state message out
-      ≡ (tables
-      then λ _. ask 10 (participantNamed (shape .n) (state .me .0) (state .initiator .0))
+      → participant-calls.receiveQuestion tables state message out
+      ≡ (of-tables
+      then λ _. ask 10 (participantNamed (tables .shape .n) (state .me .0) (state .initiator .0))
       then λ _. ask 11 (isPurpose (state .purpose))
       then λ _. 13)
   unfolding participant-calls.receiveQuestion
   participant-refused state message out none =
-      let own : Own = participant-calls.ownOfState shape sent received state in
-      refused-together tables (participantNamed (shape .n) (state .me .0) (state .initiator .0)) (isPurpose (state .purpose)) (participant.fits own state) _
-      (λ named. participant-unfit own state (other-participant (state .n) (shape .n) none (state .me .0) (state .initiator .0) named))
+      let own : Own = participant-calls.ownOfState tables state in
+      refused-together of-tables (participantNamed (tables .shape .n) (state .me .0) (state .initiator .0)) (isPurpose (state .purpose)) (participant.fits own state) _
+      (λ named. participant-unfit own state (other-participant (state .n) (tables .shape .n) none (state .me .0) (state .initiator .0) named))
 
   initiator-refused : (state : Initiator) (message out : List ℕ) → state .n ≡ 0
-      → initiator-calls.receiveQuestion shape sent received state message out
-      ≡ (tables then λ _. ask 10 (isNamed (shape .n) (state .me .0)) then λ _. ask 11 (isPurpose (state .purpose)) then λ _. 13)
+      → initiator-calls.receiveQuestion tables state message out
+      ≡ (of-tables then λ _. ask 10 (isNamed (tables .shape .n) (state .me .0)) then λ _. ask 11 (isPurpose (state .purpose)) then λ _. 13)
   unfolding initiator-calls.receiveQuestion
   initiator-refused state message out none =
-      let own : Own = initiator-calls.ownOfState shape sent received state in
-      refused-together tables (isNamed (shape .n) (state .me .0)) (isPurpose (state .purpose)) (initiator.fits own state) _
-      (λ named. initiator-unfit own state (other (state .n) (shape .n) none (state .me .0) named))
+      let own : Own = initiator-calls.ownOfState tables state in
+      refused-together of-tables (isNamed (tables .shape .n) (state .me .0)) (isPurpose (state .purpose)) (initiator.fits own state) _
+      (λ named. initiator-unfit own state (other (state .n) (tables .shape .n) none (state .me .0) named))
 
   session-refused : (session : Session) (p : Process) (strands : List ℕ) → session .n ≡ 0
-      → turnQuestion shape sent received session p strands
-      ≡ (tables
-      then λ _. ask 10 (participantNamed (shape .n) (p .0) (session .initiator .0) && sessionNamed (shape .n) session)
+      → turnQuestion tables session p strands
+      ≡ (of-tables
+      then λ _. ask 10 (participantNamed (tables .shape .n) (p .0) (session .initiator .0) && sessionNamed (tables .shape .n) session)
       then λ _. ask 11 (sessionPurposes session)
       then λ _. 13)
   unfolding turnQuestion
   session-refused session p strands none =
-      let n : ℕ = shape .n in
+      let n : ℕ = tables .shape .n in
       let names : Bool = participantNamed n (p .0) (session .initiator .0) in
-      refused tables (names && sessionNamed n session) (sessionPurposes session) (sessionFits shape sent received session strands) _
+      refused of-tables (names && sessionNamed n session) (sessionPurposes session) (sessionFits tables session strands) _
       (λ named.
-      session-unfit shape sent received session strands
+      session-unfit tables session strands
       (other-participant (session .n) n none (p .0) (session .initiator .0) (and-both names (sessionNamed n session) named .0)))
 
 -- ---- what does not decode has no processes
 
 pub participant-undecoded : ParticipantUndecoded
 unfolding participantIn participantFrom
-participant-undecoded shape sent received words message out undecoded =
-    participant-refused shape sent received (participantIn words) message out (rw undecoded)
+participant-undecoded tables words message out undecoded =
+    participant-refused tables (participantIn words) message out (rw undecoded)
 
 pub initiator-undecoded : InitiatorUndecoded
 unfolding initiatorIn initiatorFrom
-initiator-undecoded shape sent received words message out undecoded =
-    initiator-refused shape sent received (initiatorIn words) message out (rw undecoded)
+initiator-undecoded tables words message out undecoded =
+    initiator-refused tables (initiatorIn words) message out (rw undecoded)
 
 pub session-undecoded : SessionUndecoded
 unfolding sessionIn
-session-undecoded shape sent received words p strands undecoded =
-    session-refused shape sent received (sessionIn words) p strands (rw undecoded)
+session-undecoded tables words p strands undecoded = session-refused tables (sessionIn words) p strands (rw undecoded)

@@ -4,9 +4,11 @@ use mathlib.Core.Bool.{true, false, _&&_}
 use mathlib.Core.List.{List}
 use Prim.Native.Nat.{ℕ}
 use lib.ListN.{length}
+use Rattle.book.specs.Lent.{Tables}
 use Rattle.book.specs.declared.Shape.{Shape}
 use Rattle.book.specs.declared.Process.{Process}
 use Rattle.book.specs.declared.Checkpoint.{Checkpoint}
+use Rattle.book.specs.Bounds.{mostProcesses}
 use Rattle.book.specs.InTurn.{_then_, ask}
 use Rattle.book.specs.Check.{tablesQuestion}
 use Rattle.book.specs.Names.{isNamed, isPurpose}
@@ -18,20 +20,22 @@ use Rattle.initiator.specs.Calls as initiator
 use Rattle.session.specs.declared.Session.{Session}
 use Rattle.session.specs.Fits.{sessionNamed, sessionPurposes}
 use Rattle.session.specs.Calls.{turnQuestion}
-use Rattle.words.specs.Words.{word, shapeLength, setLength, participantLength, initiatorLength, sessionLength}
+use Rattle.words.specs.Words.{word, shapeLength, setLength}
 use Rattle.words.specs.Plain.{shapeIn, shapeWords, setIn, setWords}
-use Rattle.words.specs.Participant.{participantWords, participantDecodes, participantIn}
-use Rattle.words.specs.Initiator.{initiatorWords, initiatorDecodes, initiatorIn}
-use Rattle.words.specs.Session.{sessionWords, sessionDecodes, sessionIn}
+use Rattle.words.specs.Participant as participant-words
+use Rattle.words.specs.Participant.{participantLength, participantWords, participantDecodes, participantIn}
+use Rattle.words.specs.Initiator as initiator-words
+use Rattle.words.specs.Initiator.{initiatorLength, initiatorWords, initiatorDecodes, initiatorIn}
+use Rattle.words.specs.Session.{initiatorAt, sessionLength, sessionWords, sessionDecodes, sessionIn}
 use Rattle.word_laws.specs.Values.{IsParticipant, IsInitiator, IsSession}
 
 -- ---- Decoding what was encoded gives the value.
 
 abbrev pub ShapeBack : Type 0
-ShapeBack = (shape : Shape) → length (shape .counts) ≡ 16 → shapeIn (shapeWords shape) ≡ shape
+ShapeBack = (shape : Shape) → length (shape .counts) ≡ mostProcesses → shapeIn (shapeWords shape) ≡ shape
 
 abbrev pub SetBack : Type 0
-SetBack = (set : List Checkpoint) → length set ≡ 16 → setIn (setWords set) ≡ set
+SetBack = (set : List Checkpoint) → length set ≡ mostProcesses → setIn (setWords set) ≡ set
 
 abbrev pub ParticipantBack : Type 0
 ParticipantBack = (state : Participant) → IsParticipant state → participantIn (participantWords state) ≡ state
@@ -69,27 +73,27 @@ SessionForm =
 
 abbrev pub ParticipantUndecoded : Type 0
 ParticipantUndecoded =
-    (shape : Shape) (sent received words message out : List ℕ) → participantDecodes words 0 ≡ false
-    → participant.receiveQuestion shape sent received (participantIn words) message out
-    ≡ (tablesQuestion shape sent received
-    then λ _. ask 10 (participantNamed (shape .n) (word words 1) (word words 2))
-    then λ _. ask 11 (isPurpose (word words 3))
+    (tables : Tables) (words message out : List ℕ) → participantDecodes words 0 ≡ false
+    → participant.receiveQuestion tables (participantIn words) message out
+    ≡ (tablesQuestion tables
+    then λ _. ask 10 (participantNamed (tables .shape .n) (word words participant-words.processAt) (word words participant-words.initiatorAt))
+    then λ _. ask 11 (isPurpose (word words participant-words.purposeAt))
     then λ _. 13)
 
 abbrev pub InitiatorUndecoded : Type 0
 InitiatorUndecoded =
-    (shape : Shape) (sent received words message out : List ℕ) → initiatorDecodes words 0 ≡ false
-    → initiator.receiveQuestion shape sent received (initiatorIn words) message out
-    ≡ (tablesQuestion shape sent received
-    then λ _. ask 10 (isNamed (shape .n) (word words 1))
-    then λ _. ask 11 (isPurpose (word words 2))
+    (tables : Tables) (words message out : List ℕ) → initiatorDecodes words 0 ≡ false
+    → initiator.receiveQuestion tables (initiatorIn words) message out
+    ≡ (tablesQuestion tables
+    then λ _. ask 10 (isNamed (tables .shape .n) (word words initiator-words.processAt))
+    then λ _. ask 11 (isPurpose (word words initiator-words.purposeAt))
     then λ _. 13)
 
 abbrev pub SessionUndecoded : Type 0
 SessionUndecoded =
-    (shape : Shape) (sent received words : List ℕ) (p : Process) (strands : List ℕ) → sessionDecodes words ≡ false
-    → turnQuestion shape sent received (sessionIn words) p strands
-    ≡ (tablesQuestion shape sent received
-    then λ _. ask 10 (participantNamed (shape .n) (p .0) (word words 1) && sessionNamed (shape .n) (sessionIn words))
+    (tables : Tables) (words : List ℕ) (p : Process) (strands : List ℕ) → sessionDecodes words ≡ false
+    → turnQuestion tables (sessionIn words) p strands
+    ≡ (tablesQuestion tables
+    then λ _. ask 10 (participantNamed (tables .shape .n) (p .0) (word words initiatorAt) && sessionNamed (tables .shape .n) (sessionIn words))
     then λ _. ask 11 (sessionPurposes (sessionIn words))
     then λ _. 13)

@@ -2,37 +2,46 @@
 -- of a value lie one after another.
 use mathlib.Core.Bool.{Bool}
 use mathlib.Core.List.{List}
-use Prim.Native.Nat.{ℕ, _+_, _%_}
+use Prim.Native.Nat.{ℕ, _+_, _*_, _%_}
 use lib.ListN.{length, getD}
 use lib.Dec.{ltb, eqb}
 use Rattle.book.specs.declared.Count.{Count}
+use Rattle.book.specs.Bounds.{mostProcesses, mark}
 use Rattle.lists.specs.Over.{allTo, tab}
 use Rattle.consistency.specs.Known.{counters}
+use Rattle.machine.specs.Named.{tallyBound}
 
--- the lengths of the slices
+-- The lengths of the slices; each part begins where the one before it ends. Those of states and sessions stand with their words.
+
+-- a shape: n, then how many checkpoints each process has
+abbrev pub shapeCountsAt : ℕ
+shapeCountsAt = 1
+
 abbrev pub shapeLength : ℕ
-shapeLength = 17
+shapeLength = shapeCountsAt + mostProcesses
 
 abbrev pub setLength : ℕ
-setLength = 16
+setLength = mostProcesses
 
 abbrev pub pairLength : ℕ
 pairLength = 2
 
 abbrev pub lengthsLength : ℕ
-lengthsLength = 16
+lengthsLength = mostProcesses
+
+-- an order: the checkpoints restarted from, how many go before, and how many after
+abbrev pub orderBeforeAt : ℕ
+orderBeforeAt = setLength
+
+abbrev pub orderAfterAt : ℕ
+orderAfterAt = orderBeforeAt + mostProcesses
 
 abbrev pub orderLength : ℕ
-orderLength = 48
+orderLength = orderAfterAt + mostProcesses
 
-abbrev pub participantLength : ℕ
-participantLength = 38
-
-abbrev pub initiatorLength : ℕ
-initiatorLength = 534
-
-abbrev pub sessionLength : ℕ
-sessionLength = 1162
+-- the counters of a matrix, a row for each sender
+abbrev pub matrixLength : ℕ
+matrixLength = mostProcesses * mostProcesses
 
 -- a slice of words of another length is refused by this number, before every question
 abbrev pub wrongLength : ℕ
@@ -49,20 +58,23 @@ word words i = getD words i 0
 unfoldable pub allBelow : ℕ → List ℕ → ℕ → ℕ → Bool
 allBelow bound words at k = allTo k (λ i. ltb (word words (at + i)) bound)
 
--- A counter, a count of rounds or of deliveries has 32 bits. A word that has more is no such number: whoever takes one asks
--- too that it is below this.
-abbrev pub counterLimit : ℕ
-counterLimit = 4294967296
+-- A counter is at most the mark. A word that is more is none: whoever takes one asks too that it is below this.
+abbrev pub counterBound : ℕ
+counterBound = mark + 1
 
-abbrev pub low : ℕ → ℕ
-low w = w % counterLimit
+abbrev pub counterIn : ℕ → ℕ
+counterIn w = w % counterBound
+
+-- likewise a count of rounds or of deliveries
+abbrev pub tallyIn : ℕ → ℕ
+tallyIn w = w % tallyBound
 
 -- sixteen numbers, and k counters, from a place on
 abbrev pub sixteenAt : List ℕ → ℕ → List ℕ
-sixteenAt words at = tab 16 (λ i. word words (at + i))
+sixteenAt words at = tab mostProcesses (λ i. word words (at + i))
 
 unfoldable pub countsAt : ℕ → List ℕ → ℕ → List Count
-countsAt k words at = tab {A = Count} k (λ i. record { 0 = low (word words (at + i)) })
+countsAt k words at = tab {A = Count} k (λ i. record { 0 = counterIn (word words (at + i)) })
 
 -- k counters as words
 abbrev pub countWords : ℕ → List Count → List ℕ

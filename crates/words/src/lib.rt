@@ -1,35 +1,25 @@
 // What crosses to other languages as words of 64 bits: the definitions of every value, and the code of those that are numbers.
+pub mod layout;
+
 use book::Answer;
 use book::Checkpoint;
 use book::Count;
+use book::Counter;
 use book::Shape;
 use restart::Order;
 ghost use mathlib.Core.Path.{_≡_};
 ghost use Prim.Native.Nat.{_+_, _≤_};
 ghost use lib.ListN.{length};
 ghost use lib.Seq.{sets};
-ghost use Rattle.words.specs.Words.{low, allBelow, sixteenAt, countsAt, countWords};
+ghost use Rattle.book.specs.Bounds.{mostProcesses};
+ghost use Rattle.words.specs.Words.{shapeLength, setLength, orderLength, matrixLength, allBelow, counterIn, tallyIn, sixteenAt, countsAt, countWords};
 ghost use Rattle.words.specs.Plain.{numberOf, shapeIn, shapeWords, setIn, numberWords, setWords, orderWords};
 
-// How long the slices are.
-pub const SHAPE_WORDS: usize = 17;
+// What a counter's word is below: a counter is at most the mark for "not known".
+pub const COUNTER_BOUND: u64 = book::MARK + 1;
 
-pub const SET_WORDS: usize = 16;
-
-pub const PAIR_WORDS: usize = 2;
-
-pub const LENGTHS_WORDS: usize = 16;
-
-pub const ORDER_WORDS: usize = 48;
-
-pub const PARTICIPANT_WORDS: usize = 38;
-
-pub const INITIATOR_WORDS: usize = 534;
-
-pub const SESSION_WORDS: usize = 1162;
-
-// A counter has 32 bits.
-pub const COUNTER_LIMIT: u64 = 4294967296;
+// What the word of a tally is below, a count of rounds or of deliveries.
+pub const TALLY_BOUND: u64 = machine::TALLY_LIMIT as u64 + 1;
 
 // An answer as a number: 0, or the question that refuses.
 pub fn number_of(answer: Answer) -> u32
@@ -55,11 +45,25 @@ pub fn of_number(v: usize) -> u64
     v as u64
 }
 
-// The low 32 bits of a word.
-pub fn low(w: u64) -> u32
-    ensures { λ r. ⌜ r ≡ low w ⌝ }
+// A word as a counter; of a longer one the low bits.
+pub fn counter_in(w: u64) -> Counter
+    ensures { λ r. ⌜ r ≡ counterIn w ⌝ }
 {
-    (w % COUNTER_LIMIT) as u32
+    (w % COUNTER_BOUND) as Counter
+}
+
+// A word as a tally, likewise.
+pub fn tally_in(w: u64) -> u32
+    ensures { λ r. ⌜ r ≡ tallyIn w ⌝ }
+{
+    (w % TALLY_BOUND) as u32
+}
+
+// A tally as a word.
+pub fn of_tally(v: u32) -> u64
+    ensures { λ r. ⌜ r ≡ v ⌝ }
+{
+    v as u64
 }
 
 // Are k words from a place on each below a bound?
@@ -79,7 +83,7 @@ pub fn all_below(bound: u64, words: &[u64], at: usize, k: usize) -> bool
 
 // Sixteen numbers from a place on.
 pub fn numbers_at(words: &[u64], at: usize) -> [usize; 16]
-    requires { ⌜ at + 16 ≤ length (now words) ⌝ }
+    requires { ⌜ at + mostProcesses ≤ length (now words) ⌝ }
     ensures { λ r. ⌜ r ≡ sixteenAt (now (words .entry)) at ⌝ }
 {
     let mut numbers = [0usize; 16];
@@ -93,13 +97,13 @@ pub fn numbers_at(words: &[u64], at: usize) -> [usize; 16]
 
 // Sixteen counters from a place on.
 pub fn row_at(words: &[u64], at: usize) -> [Count; 16]
-    requires { ⌜ at + 16 ≤ length (now words) ⌝ }
-    ensures { λ r. ⌜ r ≡ countsAt 16 (now (words .entry)) at ⌝ }
+    requires { ⌜ at + mostProcesses ≤ length (now words) ⌝ }
+    ensures { λ r. ⌜ r ≡ countsAt mostProcesses (now (words .entry)) at ⌝ }
 {
     let mut counts = [Count(0); 16];
     let mut i = 0;
     while i < book::MOST_PROCESSES {
-        counts[i] = Count(low(words[at + i]));
+        counts[i] = Count(counter_in(words[at + i]));
         i += 1;
     }
     counts
@@ -107,13 +111,13 @@ pub fn row_at(words: &[u64], at: usize) -> [Count; 16]
 
 // The counters of a matrix, from a place on.
 pub fn matrix_at(words: &[u64], at: usize) -> [Count; 256]
-    requires { ⌜ at + 256 ≤ length (now words) ⌝ }
-    ensures { λ r. ⌜ r ≡ countsAt 256 (now (words .entry)) at ⌝ }
+    requires { ⌜ at + matrixLength ≤ length (now words) ⌝ }
+    ensures { λ r. ⌜ r ≡ countsAt matrixLength (now (words .entry)) at ⌝ }
 {
     let mut counts = [Count(0); 256];
     let mut i = 0;
     while i < matrix::ENTRIES {
-        counts[i] = Count(low(words[at + i]));
+        counts[i] = Count(counter_in(words[at + i]));
         i += 1;
     }
     counts
@@ -121,17 +125,17 @@ pub fn matrix_at(words: &[u64], at: usize) -> [Count; 256]
 
 // The shape in a slice of words.
 pub fn shape_in(words: &[u64]) -> Shape
-    requires { ⌜ length (now words) ≡ 17 ⌝ }
+    requires { ⌜ length (now words) ≡ shapeLength ⌝ }
     ensures { λ r. ⌜ r ≡ shapeIn (now (words .entry)) ⌝ }
 {
     let n = number(words[0]);
-    let counts = numbers_at(words, 1);
+    let counts = numbers_at(words, layout::SHAPE_COUNTS_AT);
     Shape { n, counts }
 }
 
 // The set in a slice of words.
 pub fn set_in(words: &[u64]) -> [Checkpoint; 16]
-    requires { ⌜ length (now words) ≡ 16 ⌝ }
+    requires { ⌜ length (now words) ≡ setLength ⌝ }
     ensures { λ r. ⌜ r ≡ setIn (now (words .entry)) ⌝ }
 {
     let mut set = [Checkpoint(0); 16];
@@ -145,7 +149,7 @@ pub fn set_in(words: &[u64]) -> [Checkpoint; 16]
 
 // Sixteen numbers, to a place on.
 pub fn put_numbers(numbers: [usize; 16], words: &mut [u64], at: usize)
-    requires { ⌜ at + 16 ≤ length (now words) ⌝ }
+    requires { ⌜ at + mostProcesses ≤ length (now words) ⌝ }
     ensures { λ _. ⌜ now (words .exit) ≡ sets (now (words .entry)) at (numberWords numbers) ⌝ }
 {
     let mut i = 0;
@@ -157,7 +161,7 @@ pub fn put_numbers(numbers: [usize; 16], words: &mut [u64], at: usize)
 
 // Sixteen checkpoint numbers.
 pub fn put_set(set: [Checkpoint; 16], words: &mut [u64], at: usize)
-    requires { ⌜ at + 16 ≤ length (now words) ⌝ }
+    requires { ⌜ at + mostProcesses ≤ length (now words) ⌝ }
     ensures { λ _. ⌜ now (words .exit) ≡ sets (now (words .entry)) at (setWords set) ⌝ }
 {
     let mut i = 0;
@@ -170,8 +174,8 @@ pub fn put_set(set: [Checkpoint; 16], words: &mut [u64], at: usize)
 
 // Sixteen counters.
 pub fn put_row(row: [Count; 16], words: &mut [u64], at: usize)
-    requires { ⌜ at + 16 ≤ length (now words) ⌝ }
-    ensures { λ _. ⌜ now (words .exit) ≡ sets (now (words .entry)) at (countWords 16 row) ⌝ }
+    requires { ⌜ at + mostProcesses ≤ length (now words) ⌝ }
+    ensures { λ _. ⌜ now (words .exit) ≡ sets (now (words .entry)) at (countWords mostProcesses row) ⌝ }
 {
     let mut i = 0;
     while i < book::MOST_PROCESSES {
@@ -183,8 +187,8 @@ pub fn put_row(row: [Count; 16], words: &mut [u64], at: usize)
 
 // The counters of a matrix.
 pub fn put_matrix(entries: [Count; 256], words: &mut [u64], at: usize)
-    requires { ⌜ at + 256 ≤ length (now words) ⌝ }
-    ensures { λ _. ⌜ now (words .exit) ≡ sets (now (words .entry)) at (countWords 256 entries) ⌝ }
+    requires { ⌜ at + matrixLength ≤ length (now words) ⌝ }
+    ensures { λ _. ⌜ now (words .exit) ≡ sets (now (words .entry)) at (countWords matrixLength entries) ⌝ }
 {
     let mut i = 0;
     while i < matrix::ENTRIES {
@@ -196,23 +200,23 @@ pub fn put_matrix(entries: [Count; 256], words: &mut [u64], at: usize)
 
 // A shape, to a slice of its length.
 pub fn put_shape(shape: Shape, words: &mut [u64])
-    requires { ⌜ length (now words) ≡ 17 ⌝ }
+    requires { ⌜ length (now words) ≡ shapeLength ⌝ }
     ensures { λ _. ⌜ now (words .exit) ≡ shapeWords shape ⌝ }
 {
     let counts = shape.counts;
     words[0] = of_number(shape.n);
-    put_numbers(counts, words, 1);
+    put_numbers(counts, words, layout::SHAPE_COUNTS_AT);
 }
 
 // An order, to a slice of its length.
 pub fn put_order(order: Order, words: &mut [u64])
-    requires { ⌜ length (now words) ≡ 48 ⌝ }
+    requires { ⌜ length (now words) ≡ orderLength ⌝ }
     ensures { λ _. ⌜ now (words .exit) ≡ orderWords order ⌝ }
 {
     let from = order.from;
     let before = order.before;
     let after = order.after;
     put_set(from, words, 0);
-    put_numbers(before, words, 16);
-    put_numbers(after, words, 32);
+    put_numbers(before, words, layout::ORDER_BEFORE_AT);
+    put_numbers(after, words, layout::ORDER_AFTER_AT);
 }

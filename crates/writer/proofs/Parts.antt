@@ -6,6 +6,7 @@ use native.Mathlib.Numerals.{add-one}
 use native.Mathlib.Omega.{arith}
 use lib.ListN.{length, take, drop, getD, length-take, length-drop, drop-of-length-le}
 use lib.Seq.{drop-cons, getD-drop, getD-take, length-take-le}
+use Rattle.book.specs.Lent.{lent}
 use Rattle.varint.specs.Number.{encode}
 use Rattle.varint.specs.Sequence.{encodeAll}
 use Rattle.varint.proofs.Sequence.{encodeAll-append}
@@ -75,7 +76,7 @@ module _ {n j first count : ℕ} {sent received : List ℕ} (in-sent : RowsFit n
 
 module _ (shape : Shape) {sent received : List ℕ} (in-sent : BookFits (shape .n) (shape .counts) sent)
     (in-received : BookFits (shape .n) (shape .counts) received) where
-  pub number-first : Parts (bytesOf shape sent received) (encode (shape .n)) (processesBytes shape 0 0 sent received)
+  pub number-first : Parts (bytesOf (lent shape sent received)) (encode (shape .n)) (processesBytes shape 0 0 sent received)
   unfolding processesBytes encodeAll
   number-first = record { split = refl }
 

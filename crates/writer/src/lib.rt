@@ -8,7 +8,8 @@ ghost use lib.ListN.{length, getD};
 ghost use lib.Seq.{sets};
 ghost use lib.Dec.{leb};
 ghost use Rattle.book.specs.Tables.{partnerColumn};
-ghost use Rattle.book.specs.Check.{tablesQuestion};
+ghost use Rattle.book.specs.Lent.{lent};
+ghost use Rattle.book.specs.Accepted.{AreAccepted};
 ghost use Rattle.book.specs.Write.{bytesOf, answerToWrite, bytesWritten};
 ghost use Rattle.book.specs.Fits.{RowsFit, BookFits};
 ghost use Rattle.writer.specs.Parts.{rowBytes, checkpointBytes, checkpointsBytes, processBytes};
@@ -91,7 +92,7 @@ fn process_size(
 fn book_size(shape: Shape, sent: &[Counter], received: &[Counter]) -> usize
     requires { ⌜ BookFits (shape .n) (shape .counts) (now sent) ⌝ }
     requires { ⌜ BookFits (shape .n) (shape .counts) (now received) ⌝ }
-    ensures { λ r. ⌜ r ≡ length (bytesOf shape (now (sent .entry)) (now (received .entry))) ⌝ }
+    ensures { λ r. ⌜ r ≡ length (bytesOf (lent shape (now (sent .entry)) (now (received .entry)))) ⌝ }
 {
     let n = shape.n;
     let counts = shape.counts;
@@ -193,9 +194,9 @@ fn write_process(
 fn write_book(shape: Shape, sent: &[Counter], received: &[Counter], out: &mut [u8]) -> usize
     requires { ⌜ BookFits (shape .n) (shape .counts) (now sent) ⌝ }
     requires { ⌜ BookFits (shape .n) (shape .counts) (now received) ⌝ }
-    requires { ⌜ length (bytesOf shape (now sent) (now received)) ≤ length (now out) ⌝ }
-    ensures { λ r. ⌜ r ≡ length (bytesOf shape (now (sent .entry)) (now (received .entry))) ⌝ }
-    ensures { λ _. ⌜ now (out .exit) ≡ sets (now (out .entry)) 0 (bytesOf shape (now (sent .entry)) (now (received .entry))) ⌝ }
+    requires { ⌜ length (bytesOf (lent shape (now sent) (now received))) ≤ length (now out) ⌝ }
+    ensures { λ r. ⌜ r ≡ length (bytesOf (lent shape (now (sent .entry)) (now (received .entry)))) ⌝ }
+    ensures { λ _. ⌜ now (out .exit) ≡ sets (now (out .entry)) 0 (bytesOf (lent shape (now (sent .entry)) (now (received .entry)))) ⌝ }
 {
     let n = shape.n;
     let counts = shape.counts;
@@ -212,8 +213,8 @@ fn write_book(shape: Shape, sent: &[Counter], received: &[Counter], out: &mut [u
 
 // Is there room for the book (question 17)? A buffer for the largest book always has it: only a smaller one makes us measure.
 fn has_room(shape: Shape, sent: &[Counter], received: &[Counter], room: usize) -> bool
-    requires { ⌜ tablesQuestion shape (now sent) (now received) ≡ 0 ⌝ }
-    ensures { λ r. ⌜ r ≡ leb (length (bytesOf shape (now (sent .entry)) (now (received .entry)))) room ⌝ }
+    requires { ⌜ AreAccepted (lent shape (now sent) (now received)) ⌝ }
+    ensures { λ r. ⌜ r ≡ leb (length (bytesOf (lent shape (now (sent .entry)) (now (received .entry))))) room ⌝ }
 {
     if book::MOST_BYTES <= room {
         return true;
@@ -224,8 +225,8 @@ fn has_room(shape: Shape, sent: &[Counter], received: &[Counter], room: usize) -
 // The tables' book written to the start of a buffer: how many bytes, or the first question that fails, the buffer then
 // unchanged. Bytes after the written ones are not touched.
 pub fn write(shape: Shape, sent: &[Counter], received: &[Counter], out: &mut [u8]) -> WriteAnswer
-    ensures answer { λ r. ⌜ r ≡ answerToWrite shape (now (sent .entry)) (now (received .entry)) (now (out .entry)) ⌝ }
-    ensures bytes { λ _. ⌜ now (out .exit) ≡ bytesWritten shape (now (sent .entry)) (now (received .entry)) (now (out .entry)) ⌝ }
+    ensures answer { λ r. ⌜ r ≡ answerToWrite (lent shape (now (sent .entry)) (now (received .entry))) (now (out .entry)) ⌝ }
+    ensures bytes { λ _. ⌜ now (out .exit) ≡ bytesWritten (lent shape (now (sent .entry)) (now (received .entry))) (now (out .entry)) ⌝ }
 {
     let question = tables::question(shape, sent, received);
     if question != 0 {

@@ -4,7 +4,7 @@
 use crate::book::Book;
 use crate::call::Call;
 use crate::claims::waiting;
-use crate::layout::{session, strand_bytes, BOOK_BYTES, ORDER_WORDS, PAIR_WORDS, SET_WORDS};
+use crate::layout::{session, strand_bytes, Counter, BOOK_BYTES, ORDER_WORDS, PAIR_WORDS, SET_WORDS};
 use crate::lent::{Guarded, Lent};
 use crate::line::line;
 use crate::ours;
@@ -31,8 +31,8 @@ pub enum Operation {
 /// What the independent implementation works on.
 struct Native {
     shape: Shape,
-    sent: Vec<u32>,
-    received: Vec<u32>,
+    sent: Vec<Counter>,
+    received: Vec<Counter>,
     bytes: Vec<u8>,
     out: Vec<u8>,
     set: [u64; SET_WORDS],

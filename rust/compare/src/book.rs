@@ -1,13 +1,13 @@
 //! Books as data: the generators build them, and the claims of demand 3 are checked against them.
 
-use crate::layout::{PROCESSES, SHAPE_WORDS, TABLE_ENTRIES};
+use crate::layout::{Counter, PROCESSES, SHAPE_WORDS, TABLE_ENTRIES};
 
 /// The two tables of a book, with its shape.
 #[derive(Clone)]
 pub struct Book {
     pub shape: [u64; SHAPE_WORDS],
-    pub sent: Vec<u32>,
-    pub received: Vec<u32>,
+    pub sent: Vec<Counter>,
+    pub received: Vec<Counter>,
 }
 
 /// Which table a counter stands in.
@@ -77,7 +77,7 @@ impl Book {
     }
 
     /// The entry of a counter.
-    pub fn entry_mut(&mut self, table: Table, j: usize, r: usize, p: usize) -> &mut u32 {
+    pub fn entry_mut(&mut self, table: Table, j: usize, r: usize, p: usize) -> &mut Counter {
         let place = self.place(j, r, p);
         match table {
             Table::Sent => &mut self.sent[place],
@@ -113,7 +113,7 @@ impl Book {
     }
 
     /// Puts a function of the old value in place of every counter; a rising function with 0 at 0 keeps the book valid.
-    pub fn map_counters(&mut self, value: impl Fn(u32) -> u32) {
+    pub fn map_counters(&mut self, value: impl Fn(Counter) -> Counter) {
         for entry in self.sent.iter_mut().chain(&mut self.received) {
             if *entry != 0 {
                 *entry = value(*entry);

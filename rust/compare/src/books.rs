@@ -1,7 +1,7 @@
 //! Random valid books.
 
 use crate::book::{Book, Table};
-use crate::layout::{CHECKPOINTS, LARGEST, PROCESSES};
+use crate::layout::{Counter, CHECKPOINTS, LARGEST, PROCESSES};
 use crate::random::Random;
 
 /// Counters around which books are made: the borders between lengths of numbers, and the largest.
@@ -66,7 +66,7 @@ fn rising(random: &mut Random, counts: &[usize], rare: usize, step: usize) -> Bo
                 for table in [Table::Sent, Table::Received] {
                     let before = *book.entry_mut(table, j, r - 1, p);
                     let growth = if random.once_in(rare) {
-                        random.between(1, step) as u32
+                        random.between(1, step) as Counter
                     } else {
                         0
                     };
@@ -122,7 +122,7 @@ fn simulated(random: &mut Random) -> Book {
             run.save(j);
         } else if random.once_in(2) {
             let p = (j + random.between(1, reach)) % n;
-            run.send(j, p, random.between(1, 3) as u32);
+            run.send(j, p, random.between(1, 3) as Counter);
         } else {
             let p = (j + n - random.between(1, reach)) % n;
             run.receive(j, p, lost);
@@ -133,9 +133,9 @@ fn simulated(random: &mut Random) -> Book {
 
 /// The workers of a simulated run: their counters now, and the rows that they saved.
 struct Run {
-    sent: Vec<Vec<u32>>,
-    received: Vec<Vec<u32>>,
-    saved: Vec<Vec<(Vec<u32>, Vec<u32>)>>,
+    sent: Vec<Vec<Counter>>,
+    received: Vec<Vec<Counter>>,
+    saved: Vec<Vec<(Vec<Counter>, Vec<Counter>)>>,
 }
 
 impl Run {
@@ -157,14 +157,14 @@ impl Run {
         self.saved[j].push(row);
     }
 
-    fn send(&mut self, j: usize, p: usize, messages: u32) {
+    fn send(&mut self, j: usize, p: usize, messages: Counter) {
         self.sent[j][p] += messages;
     }
 
     /// Receives what p has sent, but for some that are still under way.
     fn receive(&mut self, j: usize, p: usize, under_way: usize) {
         let waiting = self.sent[p][j] - self.received[j][p];
-        self.received[j][p] += waiting - waiting / under_way as u32;
+        self.received[j][p] += waiting - waiting / under_way as Counter;
     }
 
     fn book(&self) -> Book {
@@ -201,8 +201,8 @@ pub fn ring(n: usize, each: usize, held_at: usize) -> Book {
         let to = (j + n - 2) % n + 1;
         for r in 2..=each {
             let behind = if j == 1 && r > held_at { 2 } else { 1 };
-            *book.entry_mut(Table::Received, j, r, from) = (r - 1) as u32;
-            *book.entry_mut(Table::Sent, j, r, to) = (r - behind) as u32;
+            *book.entry_mut(Table::Received, j, r, from) = (r - 1) as Counter;
+            *book.entry_mut(Table::Sent, j, r, to) = (r - behind) as Counter;
         }
     }
     book
@@ -246,6 +246,6 @@ fn with_counters_moved(random: &mut Random, mut book: Book) -> Book {
         1 + random.number() % room.max(1)
     };
     let step = step.min(room.max(1));
-    book.map_counters(|counter| (start + (u64::from(counter) - 1) * step) as u32);
+    book.map_counters(|counter| (start + (u64::from(counter) - 1) * step) as Counter);
     book
 }

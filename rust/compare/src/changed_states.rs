@@ -1,6 +1,6 @@
 //! States of machines and sessions with some words changed: any word to any value, and changes that often still fit.
 
-use crate::layout::{initiator, participant, session, LARGEST, NOT_KNOWN, PROCESSES};
+use crate::layout::{initiator, participant, session, LARGEST, NOT_KNOWN, PROCESSES, TALLY_LIMIT};
 use crate::lent::Lent;
 use crate::random::Random;
 
@@ -39,7 +39,10 @@ pub fn change_initiator(random: &mut Random, words: &mut [u64]) {
                 let place = random.below(initiator::AWAITED);
                 words[place] = other_word(random, words, place, n);
             }
-            2 => words[initiator::ROUNDS] = random.one_of(&[LARGEST - 1, LARGEST, NOT_KNOWN, 1 << 32]),
+            2 => {
+                words[initiator::ROUNDS] =
+                    random.one_of(&[TALLY_LIMIT - 2, TALLY_LIMIT - 1, TALLY_LIMIT, TALLY_LIMIT + 1])
+            }
             3 => words[initiator::AWAITED + random.below(n)] ^= 1,
             4 => {
                 let held = words[initiator::MATRIX + entry];
@@ -94,7 +97,7 @@ pub fn change_session(random: &mut Random, words: &mut [u64]) {
 
 fn change_head(random: &mut Random, words: &mut [u64], n: usize) {
     if random.once_in(3) {
-        words[session::DELIVERED] = random.one_of(&[0, LARGEST - 1, LARGEST, NOT_KNOWN, 1 << 32]);
+        words[session::DELIVERED] = random.one_of(&[0, TALLY_LIMIT - 2, TALLY_LIMIT - 1, TALLY_LIMIT, TALLY_LIMIT + 1]);
     } else {
         let place = random.below(session::MACHINE);
         words[place] = other_word(random, words, place, n);

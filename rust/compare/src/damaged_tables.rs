@@ -1,7 +1,7 @@
 //! Tables damaged entry by entry, in their shapes and in their lengths.
 
 use crate::call::Call;
-use crate::layout::{CHECKPOINTS, NOT_KNOWN, PROCESSES, TABLE_ENTRIES};
+use crate::layout::{Counter, CHECKPOINTS, NOT_KNOWN, PROCESSES, TABLE_ENTRIES};
 use crate::lent::{Guarded, Lent};
 use crate::random::Random;
 
@@ -38,12 +38,12 @@ fn change_entry(random: &mut Random, lent: &mut Lent, place: usize) {
     let row_before = table[place.saturating_sub(PROCESSES)];
     let old = table[place];
     table[place] = match random.below(6) {
-        0 => NOT_KNOWN as u32,
+        0 => NOT_KNOWN as Counter,
         1 => row_before.saturating_sub(1),
         2 => old.wrapping_add(1),
         3 => old.saturating_sub(1),
-        4 => random.one_of(&[0, 1, 127, 128, NOT_KNOWN as u32 - 1]),
-        _ => random.number() as u32,
+        4 => random.one_of(&[0, 1, 127, 128, NOT_KNOWN as Counter - 1]),
+        _ => random.number() as Counter,
     };
 }
 

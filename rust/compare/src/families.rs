@@ -3,18 +3,18 @@
 use crate::book::Book;
 use crate::books::ring;
 use crate::explore::{explore_book, Explored};
-use crate::layout::participants;
+use crate::layout::{participants, Counter};
 use crate::random::Random;
 
 /// All books of n processes with at most so many checkpoints each and counters up to a largest.
 struct Family {
     n: usize,
     checkpoints: usize,
-    largest: u32,
+    largest: Counter,
 }
 
 /// A checkpoint's counters: those sent to every partner, then those received from every partner.
-type Row = Vec<u32>;
+type Row = Vec<Counter>;
 /// The rows of one process, oldest first.
 type History = Vec<Row>;
 
@@ -68,7 +68,7 @@ impl Family {
     }
 }
 
-fn with(row: &Row, counter: u32) -> Row {
+fn with(row: &Row, counter: Counter) -> Row {
     let mut longer = row.clone();
     longer.push(counter);
     longer

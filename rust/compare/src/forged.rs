@@ -3,8 +3,8 @@
 
 use crate::book::Book;
 use crate::layout::{
-    initiator, message_bytes, participant, participants, session, slot_start, strand_bytes, LARGEST, NOT_KNOWN,
-    PROCESSES,
+    initiator, message_bytes, participant, participants, put, session, slot_start, strand_bytes, LARGEST, NOT_KNOWN,
+    PROCESSES, TALLY_LIMIT,
 };
 use crate::messages::{falling_pairs, Message, INVITATION, OTHER};
 use crate::random::Random;
@@ -40,14 +40,14 @@ pub fn searching_participant(random: &mut Random, book: &Book, me: usize, initia
         words[participant::ROW + p - 1] = book.sent_at(me, candidate, p);
     }
     let head = [
-        n as u64,
-        me as u64,
-        initiator as u64,
-        purpose,
-        participant::SEARCHING,
-        candidate as u64,
+        (participant::N, n as u64),
+        (participant::PROCESS, me as u64),
+        (participant::INITIATOR, initiator as u64),
+        (participant::PURPOSE, purpose),
+        (participant::STAGE, participant::SEARCHING),
+        (participant::CANDIDATE, candidate as u64),
     ];
-    words[..participant::ROW].copy_from_slice(&head);
+    put(&mut words, &head);
     words
 }
 
@@ -59,8 +59,15 @@ fn knowing_nothing(book: &Book, me: usize, initiator: usize, purpose: u64, stage
     } else {
         book.count(me) as u64
     };
-    let head = [book.n() as u64, me as u64, initiator as u64, purpose, stage, candidate];
-    words[..participant::ROW].copy_from_slice(&head);
+    let head = [
+        (participant::N, book.n() as u64),
+        (participant::PROCESS, me as u64),
+        (participant::INITIATOR, initiator as u64),
+        (participant::PURPOSE, purpose),
+        (participant::STAGE, stage),
+        (participant::CANDIDATE, candidate),
+    ];
+    put(&mut words, &head);
     for p in participants(book.n(), me) {
         words[participant::ROW + p - 1] = NOT_KNOWN;
         words[participant::COLUMN + p - 1] = NOT_KNOWN;
@@ -99,9 +106,16 @@ pub fn searching_initiator(random: &mut Random, book: &Book, me: usize, purpose:
         words[initiator::MATRIX + entry] = sent;
         words[initiator::COPY + entry] = sent.max(near_counter(random, book, me, p));
     }
-    let rounds = random.one_of(&[0, 1, 2, LARGEST]);
-    let head = [n as u64, me as u64, purpose, u64::from(ended), candidate as u64, rounds];
-    words[..initiator::AWAITED].copy_from_slice(&head);
+    let rounds = random.one_of(&[0, 1, 2, TALLY_LIMIT - 1]);
+    let head = [
+        (initiator::N, n as u64),
+        (initiator::PROCESS, me as u64),
+        (initiator::PURPOSE, purpose),
+        (initiator::ENDED, u64::from(ended)),
+        (initiator::CANDIDATE, candidate as u64),
+        (initiator::ROUNDS, rounds),
+    ];
+    put(&mut words, &head);
     words
 }
 
@@ -170,9 +184,13 @@ impl ForgedSession {
             words: vec![0; session::WORDS],
             strands: vec![0; strand_bytes(n)],
         };
-        let head = [n as u64, initiator as u64, purpose];
-        forged.words[..session::MACHINE].copy_from_slice(&head);
-        forged.words[session::DELIVERED] = random.one_of(&[0, 7, LARGEST]);
+        let head = [
+            (session::N, n as u64),
+            (session::INITIATOR, initiator as u64),
+            (session::PURPOSE, purpose),
+            (session::DELIVERED, random.one_of(&[0, 7, TALLY_LIMIT - 1])),
+        ];
+        put(&mut forged.words, &head);
         if purpose == 2 {
             forged.restart(random, book, initiator);
         } else {
@@ -231,8 +249,15 @@ impl ForgedSession {
     /// A bare restart some of whose invitations have arrived.
     fn restart(&mut self, random: &mut Random, book: &Book, me: usize) {
         let n = book.n();
-        let head = [n as u64, me as u64, 2, 1, 1, random.one_of(&[0, 0, 3])];
-        self.machine()[..initiator::AWAITED].copy_from_slice(&head);
+        let head = [
+            (initiator::N, n as u64),
+            (initiator::PROCESS, me as u64),
+            (initiator::PURPOSE, 2),
+            (initiator::ENDED, 1),
+            (initiator::CANDIDATE, 1),
+            (initiator::ROUNDS, random.one_of(&[0, 0, 3])),
+        ];
+        put(self.machine(), &head);
         for j in 1..=n {
             for p in participants(n, j) {
                 let entry = (j - 1) * PROCESSES + p - 1;

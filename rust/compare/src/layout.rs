@@ -9,32 +9,38 @@ pub const CHECKPOINTS: usize = 256;
 /// Most bytes of a book.
 pub const BOOK_BYTES: usize = 65536;
 /// Entries of each table.
-pub const TABLE_ENTRIES: usize = 4096;
+pub const TABLE_ENTRIES: usize = CHECKPOINTS * PROCESSES;
+/// An entry.
+pub type Counter = sys::Counter;
 /// The counter that is not known.
 pub const NOT_KNOWN: u64 = 4_294_967_295;
 /// The largest counter.
 pub const LARGEST: u64 = NOT_KNOWN - 1;
+/// What counts of rounds and of deliveries stay below.
+pub const TALLY_LIMIT: u64 = 4_294_967_295;
 
 /// Words of a shape.
-pub const SHAPE_WORDS: usize = 17;
+pub const SHAPE_WORDS: usize = 1 + PROCESSES;
 /// Words of a set or line, and of lengths.
-pub const SET_WORDS: usize = 16;
+pub const SET_WORDS: usize = PROCESSES;
 /// Words of a pair at fault.
 pub const PAIR_WORDS: usize = 2;
 /// Words of a restart order.
-pub const ORDER_WORDS: usize = 48;
+pub const ORDER_WORDS: usize = 3 * PROCESSES;
 
 /// Places in a participant's words.
 pub mod participant {
+    use super::PROCESSES;
+
     pub const N: usize = 0;
-    pub const PROCESS: usize = 1;
-    pub const INITIATOR: usize = 2;
-    pub const PURPOSE: usize = 3;
-    pub const STAGE: usize = 4;
-    pub const CANDIDATE: usize = 5;
-    pub const ROW: usize = 6;
-    pub const COLUMN: usize = 22;
-    pub const WORDS: usize = 38;
+    pub const PROCESS: usize = N + 1;
+    pub const INITIATOR: usize = PROCESS + 1;
+    pub const PURPOSE: usize = INITIATOR + 1;
+    pub const STAGE: usize = PURPOSE + 1;
+    pub const CANDIDATE: usize = STAGE + 1;
+    pub const ROW: usize = CANDIDATE + 1;
+    pub const COLUMN: usize = ROW + PROCESSES;
+    pub const WORDS: usize = COLUMN + PROCESSES;
     pub const BEFORE_INVITATION: u64 = 0;
     pub const SEARCHING: u64 = 1;
     pub const ENDED: u64 = 2;
@@ -42,29 +48,31 @@ pub mod participant {
 
 /// Places in an initiator's words.
 pub mod initiator {
+    use super::PROCESSES;
+
     pub const N: usize = 0;
-    pub const PROCESS: usize = 1;
-    pub const PURPOSE: usize = 2;
-    pub const ENDED: usize = 3;
-    pub const CANDIDATE: usize = 4;
-    pub const ROUNDS: usize = 5;
-    pub const AWAITED: usize = 6;
-    pub const MATRIX: usize = 22;
-    pub const COPY: usize = 278;
-    pub const WORDS: usize = 534;
+    pub const PROCESS: usize = N + 1;
+    pub const PURPOSE: usize = PROCESS + 1;
+    pub const ENDED: usize = PURPOSE + 1;
+    pub const CANDIDATE: usize = ENDED + 1;
+    pub const ROUNDS: usize = CANDIDATE + 1;
+    pub const AWAITED: usize = ROUNDS + 1;
+    pub const MATRIX: usize = AWAITED + PROCESSES;
+    pub const COPY: usize = MATRIX + PROCESSES * PROCESSES;
+    pub const WORDS: usize = COPY + PROCESSES * PROCESSES;
 }
 
 /// Places in a session's words.
 pub mod session {
-    use super::{initiator, participant};
+    use super::{initiator, participant, PROCESSES};
 
     pub const N: usize = 0;
-    pub const INITIATOR: usize = 1;
-    pub const PURPOSE: usize = 2;
-    pub const MACHINE: usize = 3;
+    pub const INITIATOR: usize = N + 1;
+    pub const PURPOSE: usize = INITIATOR + 1;
+    pub const MACHINE: usize = PURPOSE + 1;
     pub const PARTICIPANTS: usize = MACHINE + initiator::WORDS;
-    pub const WAITING: usize = PARTICIPANTS + 16 * participant::WORDS;
-    pub const DELIVERED: usize = WAITING + 16;
+    pub const WAITING: usize = PARTICIPANTS + PROCESSES * participant::WORDS;
+    pub const DELIVERED: usize = WAITING + PROCESSES;
     pub const WORDS: usize = DELIVERED + 1;
 
     /// Where the words of participant `p` begin.
@@ -78,9 +86,19 @@ const _: () = assert!(initiator::WORDS == sys::RECOVERY_LINE_INITIATOR_WORDS);
 const _: () = assert!(session::WORDS == sys::RECOVERY_LINE_SESSION_WORDS);
 const _: () = assert!(strand_bytes(16) == sys::RECOVERY_LINE_STRAND_BYTES(16));
 
+/// Puts a number at each of some places.
+pub fn put(words: &mut [u64], numbers: &[(usize, u64)]) {
+    numbers.iter().for_each(|&(at, number)| words[at] = number);
+}
+
+/// The most bytes of a number, of the four numbers before a message's pairs, and of a pair.
+const GROUPS: usize = 5;
+const HEAD_BYTES: usize = 4;
+const PAIR_BYTES: usize = 1 + GROUPS;
+
 /// Bytes of the longest message among n processes.
 pub const fn message_bytes(n: usize) -> usize {
-    4 + (n - 1) * 6
+    HEAD_BYTES + (n - 1) * PAIR_BYTES
 }
 
 /// Bytes that suffice for a session's strands, and for the messages of one step.

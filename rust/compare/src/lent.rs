@@ -1,7 +1,7 @@
 //! What one call is lent: every slice and number of any call of the interface in one struct, so that two
 //! implementations can be run on equal copies and the copies be compared whole.
 
-use crate::layout::{SHAPE_WORDS, TABLE_ENTRIES};
+use crate::layout::{Counter, SHAPE_WORDS, TABLE_ENTRIES};
 
 /// Elements that stand before and after what is lent; a write outside the lent part shows there.
 const MARGIN: usize = 4;
@@ -76,8 +76,8 @@ impl<T: Pattern> Guarded<T> {
 #[derive(Clone, PartialEq)]
 pub struct Lent {
     pub shape: Guarded<u64>,
-    pub sent: Guarded<u32>,
-    pub received: Guarded<u32>,
+    pub sent: Guarded<Counter>,
+    pub received: Guarded<Counter>,
     /// A book or a message to be read.
     pub bytes: Guarded<u8>,
     /// Where messages or a book are written; a session's strands.
@@ -96,7 +96,7 @@ pub struct Lent {
 
 impl Lent {
     /// Tables, and nothing else.
-    pub fn tables(shape: &[u64], sent: &[u32], received: &[u32]) -> Self {
+    pub fn tables(shape: &[u64], sent: &[Counter], received: &[Counter]) -> Self {
         Lent {
             shape: Guarded::holding(shape),
             sent: Guarded::holding(sent),

@@ -2,7 +2,7 @@
 
 use crate::book::{Book, Table};
 use crate::books::ring;
-use crate::layout::LARGEST;
+use crate::layout::{Counter, LARGEST};
 
 /// Counts for n processes that sum to `total`, as even as may be.
 fn even_counts(n: usize, total: usize) -> Vec<usize> {
@@ -17,9 +17,9 @@ pub fn dense(n: usize, checkpoints: usize, small: bool) -> Book {
         for r in 2..=book.count(j) {
             for p in (1..=n).filter(|&p| p != j) {
                 let counter = if small {
-                    1 + (r / 4) as u32
+                    1 + (r / 4) as Counter
                 } else {
-                    LARGEST as u32 - 300 + r as u32
+                    LARGEST as Counter - 300 + r as Counter
                 };
                 *book.entry_mut(Table::Sent, j, r, p) = counter + 40;
                 *book.entry_mut(Table::Received, j, r, p) = counter - if small { 1 } else { 100 };
@@ -43,14 +43,14 @@ pub fn typical(n: usize, each: usize) -> Book {
             for p in (1..=n).filter(|&p| p != j) {
                 let near_end = r + 3 > each && (j + p) % 5 == 0;
                 let lag = if near_end { 0 } else { 2 };
-                *book.entry_mut(Table::Sent, j, r, p) = (1000 * (r - 1) + 7 * j + p) as u32;
+                *book.entry_mut(Table::Sent, j, r, p) = (1000 * (r - 1) + 7 * j + p) as Counter;
                 let heard = (r - 1).saturating_sub(lag);
                 let received = if heard == 0 {
                     0
                 } else {
                     1000 * heard + 7 * p + j + 400 * usize::from(near_end)
                 };
-                *book.entry_mut(Table::Received, j, r, p) = received as u32;
+                *book.entry_mut(Table::Received, j, r, p) = received as Counter;
             }
         }
     }

@@ -2,7 +2,7 @@
 
 use crate::call::Call;
 use crate::lent::{Guarded, Lent, Pattern};
-use recovery_line::sys;
+use recovery_line::{sys, Counter};
 
 /// A slice as C passes it.
 #[derive(Clone, Copy)]
@@ -26,8 +26,8 @@ fn raw<T: Pattern>(buffer: &mut Guarded<T>) -> Raw<T> {
 /// Everything that is lent, as C passes it.
 struct Arguments {
     shape: Raw<u64>,
-    sent: Raw<u32>,
-    received: Raw<u32>,
+    sent: Raw<Counter>,
+    received: Raw<Counter>,
     bytes: Raw<u8>,
     out: Raw<u8>,
     state: Raw<u64>,

@@ -1,6 +1,6 @@
 //! What was lent, as text from which a case can be made again.
 
-use crate::layout::{NOT_KNOWN, PROCESSES};
+use crate::layout::{Counter, NOT_KNOWN, PROCESSES};
 use crate::lent::{Guarded, Lent};
 use std::fmt::Write;
 
@@ -38,7 +38,7 @@ fn words(text: &mut String, name: &str, words: &[u64]) {
 }
 
 /// The rows of a table that are not all zero; nothing of a fresh one.
-fn table(text: &mut String, name: &str, table: &Guarded<u32>) {
+fn table(text: &mut String, name: &str, table: &Guarded<Counter>) {
     let entries = table.lent();
     if *table == Guarded::fresh(entries.len()) {
         let _ = writeln!(text, "  {name} of {}: fresh", entries.len());

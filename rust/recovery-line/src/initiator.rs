@@ -4,17 +4,13 @@ use crate::messages::Messages;
 use crate::names::{Checkpoint, Count, Process, Purpose};
 use crate::raw;
 use crate::refusal::Refusal;
-use crate::sys::{RECOVERY_LINE_INITIATOR_WORDS, RECOVERY_LINE_PROCESSES};
+use crate::sys::{
+    RECOVERY_LINE_INITIATOR_AWAITED_AT as AWAITED, RECOVERY_LINE_INITIATOR_CANDIDATE_AT as CANDIDATE,
+    RECOVERY_LINE_INITIATOR_ENDED_AT as ENDED, RECOVERY_LINE_INITIATOR_MATRIX_AT as MATRIX,
+    RECOVERY_LINE_INITIATOR_PROCESS_AT as PROCESS, RECOVERY_LINE_INITIATOR_PURPOSE_AT as PURPOSE,
+    RECOVERY_LINE_INITIATOR_ROUNDS_AT as ROUNDS, RECOVERY_LINE_INITIATOR_WORDS, RECOVERY_LINE_PROCESSES,
+};
 use crate::tables::Tables;
-
-// Places in the words; a session has them too.
-const PROCESS: usize = 1;
-const PURPOSE: usize = 2;
-pub(crate) const ENDED: usize = 3;
-pub(crate) const CANDIDATE: usize = 4;
-pub(crate) const ROUNDS: usize = 5;
-const AWAITED: usize = 6;
-const MATRIX: usize = 22;
 
 /// The machine of the worker that begins a search; [`Tables::initiator`] makes it.
 #[derive(Clone, Debug, PartialEq, Eq)]

@@ -68,4 +68,5 @@ pub use participant::{Participant, Stage};
 pub use refusal::Refusal;
 pub use session::Session;
 pub use set::{Line, Search, Set};
+pub use sys::Counter;
 pub use tables::{Shape, Table, Tables};

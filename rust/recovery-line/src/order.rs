@@ -2,7 +2,10 @@
 
 use crate::names::{Checkpoint, Process};
 use crate::refusal::Refusal;
-use crate::sys::{RECOVERY_LINE_ORDER_WORDS, RECOVERY_LINE_PROCESSES};
+use crate::sys::{
+    RECOVERY_LINE_ORDER_AFTER_AT as AFTER, RECOVERY_LINE_ORDER_BEFORE_AT as BEFORE, RECOVERY_LINE_ORDER_WORDS,
+    RECOVERY_LINE_PROCESSES,
+};
 
 /// What one process does in a restart order.
 #[derive(Clone, Copy, Debug, PartialEq, Eq, Hash)]
@@ -33,8 +36,8 @@ impl Order {
         (from != 0).then(|| Restart {
             process,
             from: Checkpoint::new(from),
-            before: self.0[RECOVERY_LINE_PROCESSES + place],
-            after: self.0[2 * RECOVERY_LINE_PROCESSES + place],
+            before: self.0[BEFORE + place],
+            after: self.0[AFTER + place],
         })
     }
 
@@ -48,7 +51,7 @@ impl Order {
         &self.0
     }
 
-    /// The order of 48 words; any other number of them is refused by [`Refusal::WRONG_LENGTH`].
+    /// The order of [`RECOVERY_LINE_ORDER_WORDS`] words; any other number of them is refused by [`Refusal::WRONG_LENGTH`].
     pub fn from_words(words: &[u64]) -> Result<Order, Refusal> {
         words.try_into().map(Order).map_err(|_| Refusal::WRONG_LENGTH)
     }

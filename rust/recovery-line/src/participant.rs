@@ -4,17 +4,13 @@ use crate::messages::Messages;
 use crate::names::{Checkpoint, Count, Process, Purpose};
 use crate::raw;
 use crate::refusal::Refusal;
-use crate::sys::RECOVERY_LINE_PARTICIPANT_WORDS;
+use crate::sys::{
+    RECOVERY_LINE_PARTICIPANT_CANDIDATE_AT as CANDIDATE, RECOVERY_LINE_PARTICIPANT_COLUMN_AT as COLUMN,
+    RECOVERY_LINE_PARTICIPANT_INITIATOR_AT as INITIATOR, RECOVERY_LINE_PARTICIPANT_PROCESS_AT as PROCESS,
+    RECOVERY_LINE_PARTICIPANT_PURPOSE_AT as PURPOSE, RECOVERY_LINE_PARTICIPANT_ROW_AT as ROW,
+    RECOVERY_LINE_PARTICIPANT_STAGE_AT as STAGE, RECOVERY_LINE_PARTICIPANT_WORDS,
+};
 use crate::tables::Tables;
-
-// Places in the words; a session has them too.
-const PROCESS: usize = 1;
-const INITIATOR: usize = 2;
-const PURPOSE: usize = 3;
-pub(crate) const STAGE: usize = 4;
-pub(crate) const CANDIDATE: usize = 5;
-const ROW: usize = 6;
-const COLUMN: usize = 22;
 
 pub(crate) const LAST_STAGE: u64 = 2;
 

@@ -7,10 +7,10 @@
 #![allow(unsafe_code, clippy::too_many_arguments)]
 
 use crate::refusal::Refusal;
-use crate::sys;
+use crate::sys::{self, Counter};
 
 /// Reads a book: its counters into the two tables, every entry of both, and its shape.
-pub fn read(bytes: &[u8], shape: &mut [u64], sent: &mut [u32], received: &mut [u32]) -> Result<(), Refusal> {
+pub fn read(bytes: &[u8], shape: &mut [u64], sent: &mut [Counter], received: &mut [Counter]) -> Result<(), Refusal> {
     // SAFETY: as the module says.
     Refusal::from_answer(unsafe {
         sys::recovery_line_read(
@@ -27,7 +27,7 @@ pub fn read(bytes: &[u8], shape: &mut [u64], sent: &mut [u32], received: &mut [u
 }
 
 /// Checks lent tables, and changes nothing.
-pub fn check(shape: &[u64], sent: &[u32], received: &[u32]) -> Result<(), Refusal> {
+pub fn check(shape: &[u64], sent: &[Counter], received: &[Counter]) -> Result<(), Refusal> {
     // SAFETY: as the module says.
     Refusal::from_answer(unsafe {
         sys::recovery_line_check(
@@ -42,7 +42,13 @@ pub fn check(shape: &[u64], sent: &[u32], received: &[u32]) -> Result<(), Refusa
 }
 
 /// Writes the book of the tables to the start of `out`, and its length.
-pub fn write(shape: &[u64], sent: &[u32], received: &[u32], out: &mut [u8], length: &mut u64) -> Result<(), Refusal> {
+pub fn write(
+    shape: &[u64],
+    sent: &[Counter],
+    received: &[Counter],
+    out: &mut [u8],
+    length: &mut u64,
+) -> Result<(), Refusal> {
     // SAFETY: as the module says.
     Refusal::from_answer(unsafe {
         sys::recovery_line_write(
@@ -60,7 +66,13 @@ pub fn write(shape: &[u64], sent: &[u32], received: &[u32], out: &mut [u8], leng
 }
 
 /// Tests a set: `pair` becomes 0 0 if it is consistent, and else a pair at fault.
-pub fn test_set(shape: &[u64], sent: &[u32], received: &[u32], set: &[u64], pair: &mut [u64]) -> Result<(), Refusal> {
+pub fn test_set(
+    shape: &[u64],
+    sent: &[Counter],
+    received: &[Counter],
+    set: &[u64],
+    pair: &mut [u64],
+) -> Result<(), Refusal> {
     // SAFETY: as the module says.
     Refusal::from_answer(unsafe {
         sys::recovery_line_test_set(
@@ -81,8 +93,8 @@ pub fn test_set(shape: &[u64], sent: &[u32], received: &[u32], set: &[u64], pair
 /// Finds the line, and how many checkpoints are newer than the line's.
 pub fn find_line(
     shape: &[u64],
-    sent: &[u32],
-    received: &[u32],
+    sent: &[Counter],
+    received: &[Counter],
     line: &mut [u64],
     passed: &mut u64,
 ) -> Result<(), Refusal> {
@@ -105,8 +117,8 @@ pub fn find_line(
 /// Makes a participant's first state, before its invitation.
 pub fn participant_first(
     shape: &[u64],
-    sent: &[u32],
-    received: &[u32],
+    sent: &[Counter],
+    received: &[Counter],
     me: u64,
     initiator: u64,
     purpose: u64,
@@ -134,8 +146,8 @@ pub fn participant_first(
 pub fn participant_receive(
     state: &mut [u64],
     shape: &[u64],
-    sent: &[u32],
-    received: &[u32],
+    sent: &[Counter],
+    received: &[Counter],
     message: &[u8],
     out: &mut [u8],
     lengths: &mut [u64],
@@ -164,8 +176,8 @@ pub fn participant_receive(
 /// Process `me` begins: its first state, the invitations, and the length for each process.
 pub fn initiator_begin(
     shape: &[u64],
-    sent: &[u32],
-    received: &[u32],
+    sent: &[Counter],
+    received: &[Counter],
     me: u64,
     purpose: u64,
     state: &mut [u64],
@@ -197,8 +209,8 @@ pub fn initiator_begin(
 pub fn initiator_receive(
     state: &mut [u64],
     shape: &[u64],
-    sent: &[u32],
-    received: &[u32],
+    sent: &[Counter],
+    received: &[Counter],
     message: &[u8],
     out: &mut [u8],
     lengths: &mut [u64],
@@ -227,8 +239,8 @@ pub fn initiator_receive(
 /// Starts a session: all machines of one search, with the invitations waiting in `strands`.
 pub fn session_start(
     shape: &[u64],
-    sent: &[u32],
-    received: &[u32],
+    sent: &[Counter],
+    received: &[Counter],
     initiator: u64,
     purpose: u64,
     session: &mut [u64],
@@ -257,8 +269,8 @@ pub fn session_start(
 pub fn session_turn(
     session: &mut [u64],
     shape: &[u64],
-    sent: &[u32],
-    received: &[u32],
+    sent: &[Counter],
+    received: &[Counter],
     p: u64,
     strands: &mut [u8],
 ) -> Result<(), Refusal> {
@@ -284,8 +296,8 @@ pub fn session_turn(
 /// than it, which with purpose 1 or 3 is the line and T, with purpose 2 checkpoint 1 everywhere and how many are newer than those.
 pub fn search(
     shape: &[u64],
-    sent: &[u32],
-    received: &[u32],
+    sent: &[Counter],
+    received: &[Counter],
     initiator: u64,
     purpose: u64,
     set: &mut [u64],
@@ -316,8 +328,8 @@ pub fn search(
 /// Moves the line in the tables, and gives the restart order.
 pub fn move_line(
     shape: &mut [u64],
-    sent: &mut [u32],
-    received: &mut [u32],
+    sent: &mut [Counter],
+    received: &mut [Counter],
     purpose: u64,
     order: &mut [u64],
 ) -> Result<(), Refusal> {
@@ -340,8 +352,8 @@ pub fn move_line(
 /// Gives the restart order that a move would give, and moves nothing.
 pub fn restart_order(
     shape: &[u64],
-    sent: &[u32],
-    received: &[u32],
+    sent: &[Counter],
+    received: &[Counter],
     purpose: u64,
     order: &mut [u64],
 ) -> Result<(), Refusal> {

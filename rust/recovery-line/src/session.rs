@@ -1,24 +1,18 @@
 //! A session: all machines of one search in one place.
 
-use crate::initiator;
 use crate::names::{Checkpoint, Process, Purpose};
-use crate::participant;
+use crate::participant::LAST_STAGE;
 use crate::raw;
 use crate::refusal::Refusal;
 use crate::sys::{
-    RECOVERY_LINE_INITIATOR_WORDS, RECOVERY_LINE_MESSAGE_BYTES, RECOVERY_LINE_PARTICIPANT_WORDS,
-    RECOVERY_LINE_PROCESSES, RECOVERY_LINE_SESSION_WORDS, RECOVERY_LINE_STRAND_BYTES,
+    RECOVERY_LINE_INITIATOR_CANDIDATE_AT, RECOVERY_LINE_INITIATOR_ENDED_AT, RECOVERY_LINE_INITIATOR_ROUNDS_AT,
+    RECOVERY_LINE_MESSAGE_BYTES, RECOVERY_LINE_PARTICIPANT_CANDIDATE_AT, RECOVERY_LINE_PARTICIPANT_STAGE_AT,
+    RECOVERY_LINE_PARTICIPANT_WORDS, RECOVERY_LINE_PROCESSES, RECOVERY_LINE_SESSION_DELIVERED_AT as DELIVERED,
+    RECOVERY_LINE_SESSION_INITIATOR_AT as INITIATOR, RECOVERY_LINE_SESSION_LENGTHS_AT as WAITING,
+    RECOVERY_LINE_SESSION_MACHINE_AT as MACHINE, RECOVERY_LINE_SESSION_PARTICIPANTS_AT as PARTICIPANTS,
+    RECOVERY_LINE_SESSION_PURPOSE_AT as PURPOSE, RECOVERY_LINE_SESSION_WORDS, RECOVERY_LINE_STRAND_BYTES,
 };
 use crate::tables::Tables;
-
-// Places in the words.
-const N: usize = 0;
-const INITIATOR: usize = 1;
-const PURPOSE: usize = 2;
-const INITIATOR_STATE: usize = 3;
-const PARTICIPANTS: usize = INITIATOR_STATE + RECOVERY_LINE_INITIATOR_WORDS;
-const WAITING: usize = PARTICIPANTS + RECOVERY_LINE_PROCESSES * RECOVERY_LINE_PARTICIPANT_WORDS;
-const DELIVERED: usize = WAITING + RECOVERY_LINE_PROCESSES;
 
 /// All machines of one search, with the messages that wait between them: each participant has one strand to the initiator,
 /// with at most one message waiting on it.
@@ -61,7 +55,7 @@ impl Session {
 
     /// The number of processes, n.
     pub fn processes(&self) -> u64 {
-        self.words[N]
+        self.words[0]
     }
 
     /// The process that began the search.
@@ -77,9 +71,9 @@ impl Session {
     /// The checkpoint that a process stands on; `None` for an absent one.
     pub fn candidate(&self, process: Process) -> Option<Checkpoint> {
         let word = if process == self.initiator() {
-            self.words[INITIATOR_STATE + initiator::CANDIDATE]
+            self.words[MACHINE + RECOVERY_LINE_INITIATOR_CANDIDATE_AT]
         } else {
-            self.words[participant_state(process)? + participant::CANDIDATE]
+            self.words[participant_state(process)? + RECOVERY_LINE_PARTICIPANT_CANDIDATE_AT]
         };
         (word != 0).then_some(Checkpoint::new(word))
     }
@@ -87,9 +81,9 @@ impl Session {
     /// Whether a process has ended.
     pub fn ended(&self, process: Process) -> bool {
         if process == self.initiator() {
-            return self.words[INITIATOR_STATE + initiator::ENDED] != 0;
+            return self.words[MACHINE + RECOVERY_LINE_INITIATOR_ENDED_AT] != 0;
         }
-        participant_state(process).is_some_and(|at| self.words[at + participant::STAGE] == participant::LAST_STAGE)
+        participant_state(process).is_some_and(|at| self.words[at + RECOVERY_LINE_PARTICIPANT_STAGE_AT] == LAST_STAGE)
     }
 
     /// Whether every process has ended.
@@ -99,7 +93,7 @@ impl Session {
 
     /// How many waits of the initiator have begun.
     pub fn rounds(&self) -> u64 {
-        self.words[INITIATOR_STATE + initiator::ROUNDS]
+        self.words[MACHINE + RECOVERY_LINE_INITIATOR_ROUNDS_AT]
     }
 
     /// How many messages were delivered.

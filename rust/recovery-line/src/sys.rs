@@ -10,30 +10,92 @@ pub const RECOVERY_LINE_PROCESSES: usize = 16;
 pub const RECOVERY_LINE_CHECKPOINTS: usize = 256;
 /// The most bytes of a book.
 pub const RECOVERY_LINE_BOOK_BYTES: usize = 65536;
+/// The most bytes of a number.
+pub const RECOVERY_LINE_GROUPS: usize = 5;
 /// The entries of each table.
-pub const RECOVERY_LINE_TABLE_ENTRIES: usize = 4096;
+pub const RECOVERY_LINE_TABLE_ENTRIES: usize = RECOVERY_LINE_CHECKPOINTS * RECOVERY_LINE_PROCESSES;
+/// The entries of a matrix.
+pub const RECOVERY_LINE_MATRIX_ENTRIES: usize = RECOVERY_LINE_PROCESSES * RECOVERY_LINE_PROCESSES;
 
+/// Where the counts of checkpoints begin in a shape, after n.
+pub const RECOVERY_LINE_SHAPE_COUNTS_AT: usize = 1;
 /// The words of a shape.
-pub const RECOVERY_LINE_SHAPE_WORDS: usize = 17;
+pub const RECOVERY_LINE_SHAPE_WORDS: usize = RECOVERY_LINE_SHAPE_COUNTS_AT + RECOVERY_LINE_PROCESSES;
 /// The words of a set or line.
-pub const RECOVERY_LINE_SET_WORDS: usize = 16;
+pub const RECOVERY_LINE_SET_WORDS: usize = RECOVERY_LINE_PROCESSES;
 /// The words of a pair at fault.
 pub const RECOVERY_LINE_PAIR_WORDS: usize = 2;
 /// The words that say how long the messages of one step are.
-pub const RECOVERY_LINE_LENGTHS_WORDS: usize = 16;
-/// The words of a restart order.
-pub const RECOVERY_LINE_ORDER_WORDS: usize = 48;
-/// The words of a participant's state.
-pub const RECOVERY_LINE_PARTICIPANT_WORDS: usize = 38;
-/// The words of an initiator's state.
-pub const RECOVERY_LINE_INITIATOR_WORDS: usize = 534;
-/// The words of a session.
-pub const RECOVERY_LINE_SESSION_WORDS: usize = 1162;
+pub const RECOVERY_LINE_LENGTHS_WORDS: usize = RECOVERY_LINE_PROCESSES;
 
+/// Where a restart order says how many go before, after the checkpoints restarted from.
+pub const RECOVERY_LINE_ORDER_BEFORE_AT: usize = RECOVERY_LINE_SET_WORDS;
+/// Where it says how many go after.
+pub const RECOVERY_LINE_ORDER_AFTER_AT: usize = RECOVERY_LINE_ORDER_BEFORE_AT + RECOVERY_LINE_PROCESSES;
+/// The words of a restart order.
+pub const RECOVERY_LINE_ORDER_WORDS: usize = RECOVERY_LINE_ORDER_AFTER_AT + RECOVERY_LINE_PROCESSES;
+
+/// Where a participant's own process stands in its state, after n.
+pub const RECOVERY_LINE_PARTICIPANT_PROCESS_AT: usize = 1;
+/// Where the initiator stands.
+pub const RECOVERY_LINE_PARTICIPANT_INITIATOR_AT: usize = RECOVERY_LINE_PARTICIPANT_PROCESS_AT + 1;
+/// Where the purpose stands.
+pub const RECOVERY_LINE_PARTICIPANT_PURPOSE_AT: usize = RECOVERY_LINE_PARTICIPANT_INITIATOR_AT + 1;
+/// Where the stage stands: 0 before the invitation, 1 searching, 2 ended.
+pub const RECOVERY_LINE_PARTICIPANT_STAGE_AT: usize = RECOVERY_LINE_PARTICIPANT_PURPOSE_AT + 1;
+/// Where the candidate stands.
+pub const RECOVERY_LINE_PARTICIPANT_CANDIDATE_AT: usize = RECOVERY_LINE_PARTICIPANT_STAGE_AT + 1;
+/// Where the row that it last reported begins.
+pub const RECOVERY_LINE_PARTICIPANT_ROW_AT: usize = RECOVERY_LINE_PARTICIPANT_CANDIDATE_AT + 1;
+/// Where its column begins.
+pub const RECOVERY_LINE_PARTICIPANT_COLUMN_AT: usize = RECOVERY_LINE_PARTICIPANT_ROW_AT + RECOVERY_LINE_PROCESSES;
+/// The words of a participant's state.
+pub const RECOVERY_LINE_PARTICIPANT_WORDS: usize = RECOVERY_LINE_PARTICIPANT_COLUMN_AT + RECOVERY_LINE_PROCESSES;
+
+/// Where an initiator's own process stands in its state, after n.
+pub const RECOVERY_LINE_INITIATOR_PROCESS_AT: usize = 1;
+/// Where the purpose stands.
+pub const RECOVERY_LINE_INITIATOR_PURPOSE_AT: usize = RECOVERY_LINE_INITIATOR_PROCESS_AT + 1;
+/// Where it says whether it has ended: 0 or 1.
+pub const RECOVERY_LINE_INITIATOR_ENDED_AT: usize = RECOVERY_LINE_INITIATOR_PURPOSE_AT + 1;
+/// Where the candidate stands.
+pub const RECOVERY_LINE_INITIATOR_CANDIDATE_AT: usize = RECOVERY_LINE_INITIATOR_ENDED_AT + 1;
+/// Where the count of rounds stands.
+pub const RECOVERY_LINE_INITIATOR_ROUNDS_AT: usize = RECOVERY_LINE_INITIATOR_CANDIDATE_AT + 1;
+/// Where the flags of who is awaited begin: 0 or 1.
+pub const RECOVERY_LINE_INITIATOR_AWAITED_AT: usize = RECOVERY_LINE_INITIATOR_ROUNDS_AT + 1;
+/// Where the matrix begins, a row for each sender.
+pub const RECOVERY_LINE_INITIATOR_MATRIX_AT: usize = RECOVERY_LINE_INITIATOR_AWAITED_AT + RECOVERY_LINE_PROCESSES;
+/// Where its copy begins.
+pub const RECOVERY_LINE_INITIATOR_COPY_AT: usize = RECOVERY_LINE_INITIATOR_MATRIX_AT + RECOVERY_LINE_MATRIX_ENTRIES;
+/// The words of an initiator's state.
+pub const RECOVERY_LINE_INITIATOR_WORDS: usize = RECOVERY_LINE_INITIATOR_COPY_AT + RECOVERY_LINE_MATRIX_ENTRIES;
+
+/// Where a session names its initiator, after n.
+pub const RECOVERY_LINE_SESSION_INITIATOR_AT: usize = 1;
+/// Where the purpose stands.
+pub const RECOVERY_LINE_SESSION_PURPOSE_AT: usize = RECOVERY_LINE_SESSION_INITIATOR_AT + 1;
+/// Where the initiator's words begin.
+pub const RECOVERY_LINE_SESSION_MACHINE_AT: usize = RECOVERY_LINE_SESSION_PURPOSE_AT + 1;
+/// Where the participants' words begin, those of one after those of another.
+pub const RECOVERY_LINE_SESSION_PARTICIPANTS_AT: usize =
+    RECOVERY_LINE_SESSION_MACHINE_AT + RECOVERY_LINE_INITIATOR_WORDS;
+/// Where it begins to say how many bytes wait on each strand.
+pub const RECOVERY_LINE_SESSION_LENGTHS_AT: usize =
+    RECOVERY_LINE_SESSION_PARTICIPANTS_AT + RECOVERY_LINE_PROCESSES * RECOVERY_LINE_PARTICIPANT_WORDS;
+/// Where the count of messages delivered stands.
+pub const RECOVERY_LINE_SESSION_DELIVERED_AT: usize = RECOVERY_LINE_SESSION_LENGTHS_AT + RECOVERY_LINE_PROCESSES;
+/// The words of a session.
+pub const RECOVERY_LINE_SESSION_WORDS: usize = RECOVERY_LINE_SESSION_DELIVERED_AT + 1;
+
+/// The most bytes of the four numbers before a message's pairs.
+pub const RECOVERY_LINE_HEAD_SIZE: usize = 4;
+/// The most bytes of a pair: a process of one byte, and a counter.
+pub const RECOVERY_LINE_PAIR_SIZE: usize = 1 + RECOVERY_LINE_GROUPS;
 /// The bytes of the longest message among `n` processes, `n` at least 1.
 #[allow(non_snake_case)]
 pub const fn RECOVERY_LINE_MESSAGE_BYTES(n: usize) -> usize {
-    4 + (n - 1) * 6
+    RECOVERY_LINE_HEAD_SIZE + (n - 1) * RECOVERY_LINE_PAIR_SIZE
 }
 /// The bytes that always suffice for the messages of one step, and for a session's strands, `n` at least 1.
 #[allow(non_snake_case)]
@@ -43,8 +105,11 @@ pub const fn RECOVERY_LINE_STRAND_BYTES(n: usize) -> usize {
 
 /// The stack that suffices for every call.
 pub const RECOVERY_LINE_STACK_BYTES: usize = 77824;
+
+/// An entry of a table, a counter; in C `recovery_line_counter`.
+pub type Counter = u32;
 /// A counter that is not known.
-pub const RECOVERY_LINE_NOT_KNOWN: u32 = 4294967295;
+pub const RECOVERY_LINE_NOT_KNOWN: Counter = 4294967295;
 
 /// The purpose that advances the line.
 pub const RECOVERY_LINE_ADVANCE: u64 = 1;
@@ -65,9 +130,9 @@ extern "C" {
         bytes_len: usize,
         shape: *mut u64,
         shape_len: usize,
-        sent: *mut u32,
+        sent: *mut Counter,
         sent_len: usize,
-        received: *mut u32,
+        received: *mut Counter,
         received_len: usize,
     ) -> u32;
 
@@ -75,9 +140,9 @@ extern "C" {
     pub fn recovery_line_check(
         shape: *const u64,
         shape_len: usize,
-        sent: *const u32,
+        sent: *const Counter,
         sent_len: usize,
-        received: *const u32,
+        received: *const Counter,
         received_len: usize,
     ) -> u32;
 
@@ -85,9 +150,9 @@ extern "C" {
     pub fn recovery_line_write(
         shape: *const u64,
         shape_len: usize,
-        sent: *const u32,
+        sent: *const Counter,
         sent_len: usize,
-        received: *const u32,
+        received: *const Counter,
         received_len: usize,
         out: *mut u8,
         out_len: usize,
@@ -98,9 +163,9 @@ extern "C" {
     pub fn recovery_line_test_set(
         shape: *const u64,
         shape_len: usize,
-        sent: *const u32,
+        sent: *const Counter,
         sent_len: usize,
-        received: *const u32,
+        received: *const Counter,
         received_len: usize,
         set: *const u64,
         set_len: usize,
@@ -112,9 +177,9 @@ extern "C" {
     pub fn recovery_line_find(
         shape: *const u64,
         shape_len: usize,
-        sent: *const u32,
+        sent: *const Counter,
         sent_len: usize,
-        received: *const u32,
+        received: *const Counter,
         received_len: usize,
         line: *mut u64,
         line_len: usize,
@@ -125,9 +190,9 @@ extern "C" {
     pub fn recovery_line_participant_first(
         shape: *const u64,
         shape_len: usize,
-        sent: *const u32,
+        sent: *const Counter,
         sent_len: usize,
-        received: *const u32,
+        received: *const Counter,
         received_len: usize,
         me: u64,
         initiator: u64,
@@ -142,9 +207,9 @@ extern "C" {
         state_len: usize,
         shape: *const u64,
         shape_len: usize,
-        sent: *const u32,
+        sent: *const Counter,
         sent_len: usize,
-        received: *const u32,
+        received: *const Counter,
         received_len: usize,
         message: *const u8,
         message_len: usize,
@@ -158,9 +223,9 @@ extern "C" {
     pub fn recovery_line_initiator_begin(
         shape: *const u64,
         shape_len: usize,
-        sent: *const u32,
+        sent: *const Counter,
         sent_len: usize,
-        received: *const u32,
+        received: *const Counter,
         received_len: usize,
         me: u64,
         purpose: u64,
@@ -178,9 +243,9 @@ extern "C" {
         state_len: usize,
         shape: *const u64,
         shape_len: usize,
-        sent: *const u32,
+        sent: *const Counter,
         sent_len: usize,
-        received: *const u32,
+        received: *const Counter,
         received_len: usize,
         message: *const u8,
         message_len: usize,
@@ -194,9 +259,9 @@ extern "C" {
     pub fn recovery_line_session_start(
         shape: *const u64,
         shape_len: usize,
-        sent: *const u32,
+        sent: *const Counter,
         sent_len: usize,
-        received: *const u32,
+        received: *const Counter,
         received_len: usize,
         initiator: u64,
         purpose: u64,
@@ -212,9 +277,9 @@ extern "C" {
         session_len: usize,
         shape: *const u64,
         shape_len: usize,
-        sent: *const u32,
+        sent: *const Counter,
         sent_len: usize,
-        received: *const u32,
+        received: *const Counter,
         received_len: usize,
         p: u64,
         strands: *mut u8,
@@ -225,9 +290,9 @@ extern "C" {
     pub fn recovery_line_search(
         shape: *const u64,
         shape_len: usize,
-        sent: *const u32,
+        sent: *const Counter,
         sent_len: usize,
-        received: *const u32,
+        received: *const Counter,
         received_len: usize,
         initiator: u64,
         purpose: u64,
@@ -242,9 +307,9 @@ extern "C" {
     pub fn recovery_line_move(
         shape: *mut u64,
         shape_len: usize,
-        sent: *mut u32,
+        sent: *mut Counter,
         sent_len: usize,
-        received: *mut u32,
+        received: *mut Counter,
         received_len: usize,
         purpose: u64,
         order: *mut u64,
@@ -255,9 +320,9 @@ extern "C" {
     pub fn recovery_line_restart_order(
         shape: *const u64,
         shape_len: usize,
-        sent: *const u32,
+        sent: *const Counter,
         sent_len: usize,
-        received: *const u32,
+        received: *const Counter,
         received_len: usize,
         purpose: u64,
         order: *mut u64,

@@ -9,9 +9,9 @@ use crate::raw;
 use crate::refusal::Refusal;
 use crate::set::{Line, Search, Set};
 use crate::sys::{
-    RECOVERY_LINE_BOOK_BYTES, RECOVERY_LINE_INITIATOR_WORDS, RECOVERY_LINE_ORDER_WORDS, RECOVERY_LINE_PAIR_WORDS,
-    RECOVERY_LINE_PARTICIPANT_WORDS, RECOVERY_LINE_PROCESSES, RECOVERY_LINE_SET_WORDS, RECOVERY_LINE_SHAPE_WORDS,
-    RECOVERY_LINE_TABLE_ENTRIES,
+    Counter, RECOVERY_LINE_BOOK_BYTES, RECOVERY_LINE_INITIATOR_WORDS, RECOVERY_LINE_ORDER_WORDS,
+    RECOVERY_LINE_PAIR_WORDS, RECOVERY_LINE_PARTICIPANT_WORDS, RECOVERY_LINE_PROCESSES, RECOVERY_LINE_SET_WORDS,
+    RECOVERY_LINE_SHAPE_COUNTS_AT as COUNTS, RECOVERY_LINE_SHAPE_WORDS, RECOVERY_LINE_TABLE_ENTRIES,
 };
 use std::fmt;
 
@@ -19,7 +19,7 @@ use std::fmt;
 pub type Shape = [u64; RECOVERY_LINE_SHAPE_WORDS];
 
 /// A table: a row of sixteen counters for each checkpoint.
-pub type Table = Box<[u32; RECOVERY_LINE_TABLE_ENTRIES]>;
+pub type Table = Box<[Counter; RECOVERY_LINE_TABLE_ENTRIES]>;
 
 /// A checkpoint book in memory: which checkpoints there are, and what each had sent and received.
 ///
@@ -191,7 +191,7 @@ impl Tables {
 
     /// How many checkpoints a process has; 0 for an absent one.
     pub fn checkpoints(&self, process: Process) -> u64 {
-        process.place().map_or(0, |place| self.shape[1 + place])
+        process.place().map_or(0, |place| self.shape[COUNTS + place])
     }
 
     /// How many messages a process had sent to its partner at a checkpoint, if there is such a checkpoint.
@@ -212,22 +212,22 @@ impl Tables {
     }
 
     /// The sent counters.
-    pub fn sent(&self) -> &[u32; RECOVERY_LINE_TABLE_ENTRIES] {
+    pub fn sent(&self) -> &[Counter; RECOVERY_LINE_TABLE_ENTRIES] {
         &self.sent
     }
 
     /// The received counters.
-    pub fn received(&self) -> &[u32; RECOVERY_LINE_TABLE_ENTRIES] {
+    pub fn received(&self) -> &[Counter; RECOVERY_LINE_TABLE_ENTRIES] {
         &self.received
     }
 
     fn entry(&self, process: Process, checkpoint: Checkpoint, partner: Process) -> Option<usize> {
         let (place, column) = (process.place()?, partner.place()?);
         let number = checkpoint.number();
-        if number == 0 || number > self.shape[1 + place] {
+        if number == 0 || number > self.shape[COUNTS + place] {
             return None;
         }
-        let earlier = self.shape[1..=place]
+        let earlier = self.shape[COUNTS..COUNTS + place]
             .iter()
             .fold(0u64, |sum, count| sum.saturating_add(*count));
         let row = usize::try_from(earlier.checked_add(number - 1)?).ok()?;

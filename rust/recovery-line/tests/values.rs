@@ -1,5 +1,9 @@
 //! The wrapper's own values: refusals, words that are stored and brought back, and lent slices of any length.
 
+use recovery_line::sys::{
+    RECOVERY_LINE_ORDER_WORDS, RECOVERY_LINE_PARTICIPANT_PURPOSE_AT as PURPOSE,
+    RECOVERY_LINE_PARTICIPANT_STAGE_AT as STAGE, RECOVERY_LINE_SESSION_PURPOSE_AT, RECOVERY_LINE_SET_WORDS,
+};
 use recovery_line::{raw, Initiator, Order, Participant, Process, Purpose, Refusal, Session, Set, Tables};
 use std::error::Error;
 
@@ -73,14 +77,20 @@ fn a_book_fits_its_own_length_and_no_less() {
 fn sets_and_orders_are_brought_back() {
     let line = tables().find_line().unwrap();
     assert_eq!(Set::from_words(line.set.words()), Ok(line.set));
-    assert_eq!(Set::from_words(&[1; 15]), Err(Refusal::WRONG_LENGTH));
+    assert_eq!(
+        Set::from_words(&[1; RECOVERY_LINE_SET_WORDS - 1]),
+        Err(Refusal::WRONG_LENGTH)
+    );
     assert!(Set::new(&[recovery_line::Checkpoint::OLDEST; 17]).is_err());
     let order = tables().restart_order(Purpose::Advance).unwrap();
     assert_eq!(Order::from_words(order.words()), Ok(order));
-    assert_eq!(Order::from_words(&[0; 49]), Err(Refusal::WRONG_LENGTH));
+    assert_eq!(
+        Order::from_words(&[0; RECOVERY_LINE_ORDER_WORDS + 1]),
+        Err(Refusal::WRONG_LENGTH)
+    );
     assert_eq!(
         tables()
-            .test_set(&Set::from_words(&[1; 16]).unwrap())
+            .test_set(&Set::from_words(&[1; RECOVERY_LINE_SET_WORDS]).unwrap())
             .unwrap_err()
             .question(),
         12
@@ -104,7 +114,10 @@ fn machines_are_brought_back() {
         words[place] = word;
         Participant::from_words(&words).map_err(Refusal::question).err()
     };
-    assert_eq!((with(3, 4), with(4, 3), with(4, 2)), (Some(11), Some(13), None));
+    assert_eq!(
+        (with(PURPOSE, 4), with(STAGE, 3), with(STAGE, 2)),
+        (Some(11), Some(13), None)
+    );
 }
 
 #[test]
@@ -127,7 +140,7 @@ fn a_session_is_brought_back() {
 fn a_forged_session_is_refused_and_not_indexed_with() {
     let tables = tables();
     let session = Session::start(&tables, Process::new(1), Purpose::Advance).unwrap();
-    for place in (0..session.words().len()).filter(|place| *place != 2) {
+    for place in (0..session.words().len()).filter(|place| *place != RECOVERY_LINE_SESSION_PURPOSE_AT) {
         let mut words = *session.words();
         words[place] = u64::MAX;
         let mut forged = Session::from_words(&words, session.strands()).unwrap();

@@ -10,11 +10,13 @@ pub const CHECKPOINTS: usize = 256;
 pub const BOOK_BYTES: usize = 65_536;
 /// "Two lent tables [...] of 4,096 numbers".
 pub const ENTRIES: usize = PROCESSES * CHECKPOINTS;
+/// An entry of a table: "numbers of 32 bits each".
+pub type Counter = u32;
 /// "4,294,967,295 is the mark for 'not known' and never a counter in a book or message."
-pub const MARK: u32 = u32::MAX;
+pub const MARK: Counter = 4_294_967_295;
 
 /// One number for each process: a checkpoint's counters, or what is known of them.
-pub(crate) type Row = [u32; PROCESSES];
+pub(crate) type Row = [Counter; PROCESSES];
 
 /// "In tables, n and sixteen counts go with the rows."
 #[derive(Clone, PartialEq, Debug)]
@@ -38,12 +40,12 @@ pub(crate) fn others(n: usize, own: usize) -> impl Iterator<Item = usize> {
 }
 
 /// The rows of a table.
-fn rows(table: &[u32]) -> &[Row] {
+fn rows(table: &[Counter]) -> &[Row] {
     table.as_chunks().0
 }
 
 /// Whether every entry is zero (without an early exit, which is quick over large tables).
-pub(crate) fn all_zero(entries: &[u32]) -> bool {
+pub(crate) fn all_zero(entries: &[Counter]) -> bool {
     entries.iter().fold(0, |bits, entry| bits | entry) == 0
 }
 
@@ -55,7 +57,7 @@ pub(crate) fn at_most(row: &Row, other: &Row) -> bool {
 }
 
 /// Question 2.
-fn table_lengths(sent: &[u32], received: &[u32]) -> Result<(), u32> {
+fn table_lengths(sent: &[Counter], received: &[Counter]) -> Result<(), u32> {
     if sent.len() == ENTRIES && received.len() == ENTRIES {
         Ok(())
     } else {
@@ -84,7 +86,7 @@ fn checkpoint_count(count: u64, before: usize) -> Result<usize, u32> {
 
 /// Questions 6 to 8 of one counter; `before` is the same counter one checkpoint before, `None` in
 /// an oldest checkpoint.
-fn counter_question(counter: u32, before: Option<u32>) -> Result<(), u32> {
+fn counter_question(counter: Counter, before: Option<Counter>) -> Result<(), u32> {
     if counter == MARK {
         return Err(6);
     }
@@ -97,7 +99,7 @@ fn counter_question(counter: u32, before: Option<u32>) -> Result<(), u32> {
 
 impl<'a> Book<'a> {
     /// "Lent tables meet 2, 4, all of 5, then 6 to 8 in book order, then 9."
-    pub fn accepted(shape: &Shape, sent: &'a [u32], received: &'a [u32]) -> Result<Self, u32> {
+    pub fn accepted(shape: &Shape, sent: &'a [Counter], received: &'a [Counter]) -> Result<Self, u32> {
         table_lengths(sent, received)?;
         let n = process_count(shape.n)?;
         let mut counts = [0; PROCESSES];
@@ -211,10 +213,11 @@ impl<'a> Book<'a> {
     /// The number of bytes of the book: one for each number, and those of further groups, of which
     /// unused entries have none.
     fn size(&self) -> usize {
-        let further = |numbers: &[u32]| -> u32 { numbers.iter().map(|&number| varint::further_groups(number)).sum() };
+        let further =
+            |numbers: &[Counter]| -> u32 { numbers.iter().map(|&number| varint::further_groups(number)).sum() };
         let rows: usize = self.counts.iter().sum();
         let numbers = 1 + self.n + rows * 2 * (self.n - 1);
-        let in_counts = further(&self.counts.map(|count| count as u32));
+        let in_counts = further(&self.counts.map(|count| count as Counter));
         let in_tables = further(self.sent[..rows].as_flattened()) + further(self.received[..rows].as_flattened());
         numbers + (in_counts + in_tables) as usize
     }
@@ -222,9 +225,9 @@ impl<'a> Book<'a> {
     /// Writes all numbers of the book in the order of 01, where they fit.
     fn write(&self, out: &mut [u8]) {
         let mut at = 0;
-        varint::write(self.n as u32, out, &mut at);
+        varint::write(self.n as Counter, out, &mut at);
         for own in 0..self.n {
-            varint::write(self.counts[own] as u32, out, &mut at);
+            varint::write(self.counts[own] as Counter, out, &mut at);
             for index in self.rows_of(own) {
                 for counters in [&self.sent[index], &self.received[index]] {
                     let (before, after) = (&counters[..own], &counters[own + 1..self.n]);
@@ -238,12 +241,12 @@ impl<'a> Book<'a> {
 }
 
 /// Asks lent tables questions 2 and 4 to 9.
-pub fn check(shape: &Shape, sent: &[u32], received: &[u32]) -> Result<(), u32> {
+pub fn check(shape: &Shape, sent: &[Counter], received: &[Counter]) -> Result<(), u32> {
     Book::accepted(shape, sent, received).map(|_| ())
 }
 
 /// Takes a book into the tables: questions 1 to 9.
-pub fn read(bytes: &[u8], sent: &mut [u32], received: &mut [u32]) -> Result<Shape, u32> {
+pub fn read(bytes: &[u8], sent: &mut [Counter], received: &mut [Counter]) -> Result<Shape, u32> {
     if bytes.len() > BOOK_BYTES {
         return Err(1);
     }
@@ -299,7 +302,7 @@ fn read_row(
 }
 
 /// Writes the tables as a book and answers its length: questions 2, 4 to 9 and 17.
-pub fn write(shape: &Shape, sent: &[u32], received: &[u32], out: &mut [u8]) -> Result<usize, u32> {
+pub fn write(shape: &Shape, sent: &[Counter], received: &[Counter], out: &mut [u8]) -> Result<usize, u32> {
     let book = Book::accepted(shape, sent, received)?;
     let length = book.size();
     if length > out.len() {

@@ -1,13 +1,13 @@
 //! The initiator's machine (K 5.2).
 
-use crate::book::{all_zero, at_most, others, Book, Row, Shape, MARK, PROCESSES};
-use crate::machine::{not_known, process_question, purpose_question, unused_is_zero};
+use crate::book::{all_zero, at_most, others, Book, Counter, Row, Shape, PROCESSES};
+use crate::machine::{not_known, process_question, purpose_question, unused_is_zero, TALLY_LIMIT};
 use crate::message::{differing, take_in, write_in_turn, Message, Outbox};
 use crate::message::{INVITATION, NOTHING, NO_PAIRS, OTHER, RESTART_ONLY};
 
 /// For every ordered pair "the sender's candidate's sent counter or 'not known'": row j is what
 /// process j sent to each, from 0.
-pub type Matrix = [[u32; PROCESSES]; PROCESSES];
+pub type Matrix = [[Counter; PROCESSES]; PROCESSES];
 
 #[derive(Clone, PartialEq, Debug)]
 pub struct Initiator {
@@ -97,7 +97,7 @@ impl Initiator {
         let awaited = |process: usize| self.awaited[process];
         self.n == book.n as u64
             && book.has(own, self.candidate)
-            && self.rounds < MARK
+            && self.rounds < TALLY_LIMIT
             && unused_entries_are_zero(&self.matrix, book.n)
             && unused_entries_are_zero(&self.copy, book.n)
             // "Only participants are awaited", and "a waiting initiator awaits someone".
@@ -203,7 +203,7 @@ impl Initiator {
         Ok(sent)
     }
 
-    fn message(&self, kind: u32, pairs: Row) -> Message {
+    fn message(&self, kind: u64, pairs: Row) -> Message {
         Message {
             kind,
             purpose: self.purpose,
@@ -213,7 +213,7 @@ impl Initiator {
     }
 
     /// A message of this kind for every participant, with the pairs for it.
-    fn to_everybody(&self, kind: u32, pairs_for: impl Fn(usize) -> Row) -> Outbox {
+    fn to_everybody(&self, kind: u64, pairs_for: impl Fn(usize) -> Row) -> Outbox {
         let mut outbox = NOTHING;
         for receiver in others(self.n as usize, self.own()) {
             outbox[receiver] = Some(self.message(kind, pairs_for(receiver)));
@@ -251,8 +251,8 @@ impl Initiator {
 /// its state and the length for each process. Questions 2, 4 to 11, 17.
 pub fn initiator_begin(
     shape: &Shape,
-    sent: &[u32],
-    received: &[u32],
+    sent: &[Counter],
+    received: &[Counter],
     me: u64,
     purpose: u64,
     out: &mut [u8],
@@ -270,8 +270,8 @@ pub fn initiator_begin(
 pub fn initiator_receive(
     state: &mut Initiator,
     shape: &Shape,
-    sent: &[u32],
-    received: &[u32],
+    sent: &[Counter],
+    received: &[Counter],
     message: &[u8],
     out: &mut [u8],
 ) -> Result<[u64; PROCESSES], u32> {

@@ -1,6 +1,6 @@
 //! Values as 64-bit words, in the layouts of `include/recovery_line.h`.
 
-use crate::book::{Shape, PROCESSES};
+use crate::book::{Counter, Shape, MARK, PROCESSES};
 use crate::initiator::{Initiator, Matrix};
 use crate::participant::{Participant, ENDED};
 use crate::restart::Order;
@@ -11,8 +11,11 @@ pub const SET_WORDS: usize = PROCESSES;
 pub const PAIR_WORDS: usize = 2;
 pub const LENGTHS_WORDS: usize = PROCESSES;
 pub const ORDER_WORDS: usize = 3 * PROCESSES;
-pub const PARTICIPANT_WORDS: usize = 6 + 2 * PROCESSES;
-pub const INITIATOR_WORDS: usize = 6 + PROCESSES + 2 * PROCESSES * PROCESSES;
+/// Before its row and column, or its flags and matrices, a state has this many words of one number each.
+const PARTICIPANT_NUMBERS: usize = 6;
+const INITIATOR_NUMBERS: usize = 6;
+pub const PARTICIPANT_WORDS: usize = PARTICIPANT_NUMBERS + 2 * PROCESSES;
+pub const INITIATOR_WORDS: usize = INITIATOR_NUMBERS + PROCESSES + 2 * PROCESSES * PROCESSES;
 pub const SESSION_WORDS: usize = 3 + INITIATOR_WORDS + PROCESSES * PARTICIPANT_WORDS + PROCESSES + 1;
 
 /// Reads a value's words one after another. A word that does not decode is noted for question 13,
@@ -34,8 +37,15 @@ impl<'a> Decoder<'a> {
         *self.words.next().expect("the length was asked first")
     }
 
-    /// A number of 32 bits; of a longer one the lowest 32.
-    fn narrow(&mut self) -> u32 {
+    /// A counter or the mark, whose bits are all set; of a longer word as many of the lowest bits.
+    fn counter(&mut self) -> Counter {
+        let word = self.wide();
+        self.decodes &= word <= u64::from(MARK);
+        (word & u64::from(MARK)) as Counter
+    }
+
+    /// A count of rounds or deliveries, of 32 bits; of a longer word the lowest 32.
+    fn tally(&mut self) -> u32 {
         let word = self.wide();
         self.decodes &= word <= u64::from(u32::MAX);
         word as u32
@@ -76,13 +86,13 @@ impl<'a> Decoder<'a> {
             purpose: self.wide(),
             stage: self.up_to(ENDED),
             candidate: self.wide(),
-            row: std::array::from_fn(|_| self.narrow()),
-            column: std::array::from_fn(|_| self.narrow()),
+            row: std::array::from_fn(|_| self.counter()),
+            column: std::array::from_fn(|_| self.counter()),
         }
     }
 
     fn matrix(&mut self) -> Matrix {
-        std::array::from_fn(|_| std::array::from_fn(|_| self.narrow()))
+        std::array::from_fn(|_| std::array::from_fn(|_| self.counter()))
     }
 
     pub fn initiator(&mut self) -> Initiator {
@@ -92,7 +102,7 @@ impl<'a> Decoder<'a> {
             purpose: self.wide(),
             ended: self.flag(),
             candidate: self.wide(),
-            rounds: self.narrow(),
+            rounds: self.tally(),
             awaited: std::array::from_fn(|_| self.flag()),
             matrix: self.matrix(),
             copy: self.matrix(),
@@ -107,7 +117,7 @@ impl<'a> Decoder<'a> {
             machine: self.initiator(),
             participants: std::array::from_fn(|_| self.participant()),
             lengths: std::array::from_fn(|_| self.wide()),
-            delivered: self.narrow(),
+            delivered: self.tally(),
         }
     }
 }

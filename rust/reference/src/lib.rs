@@ -20,9 +20,10 @@ mod session;
 mod varint;
 pub mod words;
 
-pub use book::{check, read, write, Shape, BOOK_BYTES, CHECKPOINTS, ENTRIES, MARK, PROCESSES};
+pub use book::{check, read, write, Counter, Shape, BOOK_BYTES, CHECKPOINTS, ENTRIES, MARK, PROCESSES};
 pub use initiator::{initiator_begin, initiator_receive, Initiator, Matrix};
 pub use line::{find_line, pairs_at_fault, test_set};
+pub use machine::TALLY_LIMIT;
 pub use participant::{participant_first, participant_receive, Participant, BEFORE, ENDED, SEARCHING};
 pub use restart::{move_line, restart_order, Order};
 pub use session::{search, session_start, session_turn, Searched, Session};

@@ -1,6 +1,6 @@
 //! The line: testing a named set, and finding the line.
 
-use crate::book::{others, Book, Row, Shape, PROCESSES};
+use crate::book::{others, Book, Counter, Row, Shape, PROCESSES};
 
 /// Question 12 of a set: "In a set or line, absent processes have 0; anything else there fails
 /// question 12."
@@ -33,8 +33,8 @@ fn named((j, p): (usize, usize)) -> (u64, u64) {
 /// Tests a set: `None` if it is consistent, else a pair (j, p) at fault. Questions 2, 4 to 9, 12.
 pub fn test_set(
     shape: &Shape,
-    sent: &[u32],
-    received: &[u32],
+    sent: &[Counter],
+    received: &[Counter],
     set: &[u64; PROCESSES],
 ) -> Result<Option<(u64, u64)>, u32> {
     let book = Book::accepted(shape, sent, received)?;
@@ -46,8 +46,8 @@ pub fn test_set(
 /// All pairs (j, p) at fault of a set, rising. Questions 2, 4 to 9, 12.
 pub fn pairs_at_fault(
     shape: &Shape,
-    sent: &[u32],
-    received: &[u32],
+    sent: &[Counter],
+    received: &[Counter],
     set: &[u64; PROCESSES],
 ) -> Result<Vec<(u64, u64)>, u32> {
     let book = Book::accepted(shape, sent, received)?;
@@ -126,7 +126,7 @@ pub(crate) fn newer(book: &Book, set: &[usize; PROCESSES]) -> u64 {
 }
 
 /// Finds the line and T, the number of checkpoints passed. Questions 2 and 4 to 9.
-pub fn find_line(shape: &Shape, sent: &[u32], received: &[u32]) -> Result<([u64; PROCESSES], u64), u32> {
+pub fn find_line(shape: &Shape, sent: &[Counter], received: &[Counter]) -> Result<([u64; PROCESSES], u64), u32> {
     let book = Book::accepted(shape, sent, received)?;
     let line = line_of(&book);
     Ok((line.map(|checkpoint| checkpoint as u64), newer(&book, &line)))

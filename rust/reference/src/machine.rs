@@ -2,6 +2,9 @@
 
 use crate::book::{others, Row, MARK, PROCESSES};
 
+/// "Counts of rounds and deliveries are below 4,294,967,295."
+pub const TALLY_LIMIT: u32 = 4_294_967_295;
+
 /// Question 10 of one process.
 pub(crate) fn process_question(n: usize, process: u64) -> Result<(), u32> {
     if (1..=n as u64).contains(&process) {

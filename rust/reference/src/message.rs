@@ -1,20 +1,20 @@
 //! Messages: "kind, purpose, sender, count of pairs, then pairs (process, counter), rising by
 //! process".
 
-use crate::book::{Row, MARK, PROCESSES};
+use crate::book::{Counter, Row, MARK, PROCESSES};
 use crate::varint;
 
 /// Kind 1.
-pub(crate) const INVITATION: u32 = 1;
+pub(crate) const INVITATION: u64 = 1;
 /// Kind 2: polls, terminations and reports.
-pub(crate) const OTHER: u32 = 2;
+pub(crate) const OTHER: u64 = 2;
 
 /// The purpose that only restarts; 1 (advance) and 3 (both) search.
 pub(crate) const RESTART_ONLY: u64 = 2;
 
 /// The bytes of a message's four leading numbers, and of one pair at its longest.
 const HEAD_BYTES: usize = 4;
-const PAIR_BYTES: usize = 6;
+const PAIR_BYTES: usize = 1 + varint::MOST_GROUPS;
 
 /// The bytes of the longest message among n processes.
 pub(crate) const fn longest(n: usize) -> usize {
@@ -26,7 +26,7 @@ pub(crate) const NO_PAIRS: Row = [MARK; PROCESSES];
 
 #[derive(Clone, Copy)]
 pub(crate) struct Message {
-    pub kind: u32,
+    pub kind: u64,
     pub purpose: u64,
     /// From 1, as it is written.
     pub sender: u64,
@@ -68,7 +68,7 @@ impl Message {
     /// mark, and "nothing follows the pairs".
     fn parsed(bytes: &[u8], n: usize) -> Option<Message> {
         let mut at = 0;
-        let kind = varint::read(bytes, &mut at)?;
+        let kind = u64::from(varint::read(bytes, &mut at)?);
         let purpose = u64::from(varint::read(bytes, &mut at)?);
         let sender = u64::from(varint::read(bytes, &mut at)?);
         let count = varint::read(bytes, &mut at)?;
@@ -137,11 +137,12 @@ impl Message {
 
     /// Writes the message at the start of `out`, where the caller has seen that it fits.
     pub fn write(&self, out: &mut [u8]) {
-        let head = [self.kind, self.purpose as u32, self.sender as u32, self.count() as u32];
+        let head = [self.kind, self.purpose, self.sender, self.count() as u64];
         let mut at = 0;
-        head.into_iter().for_each(|field| varint::write(field, out, &mut at));
+        head.into_iter()
+            .for_each(|field| varint::write(field as Counter, out, &mut at));
         for process in (0..PROCESSES).filter(|&process| self.names(process)) {
-            varint::write(process as u32 + 1, out, &mut at);
+            varint::write(process as Counter + 1, out, &mut at);
             varint::write(self.pairs[process], out, &mut at);
         }
     }

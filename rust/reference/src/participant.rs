@@ -1,6 +1,6 @@
 //! The participant's machine (K 5.3).
 
-use crate::book::{Book, Row, Shape, PROCESSES};
+use crate::book::{Book, Counter, Row, Shape, PROCESSES};
 use crate::machine::{not_known, participant_question, purpose_question, unused_is_zero};
 use crate::message::{differing, take_in, write_in_turn, Message, INVITATION, NOTHING, OTHER, RESTART_ONLY};
 
@@ -156,8 +156,8 @@ impl Participant {
 /// A participant's state before the invitation. Questions 2, 4 to 11.
 pub fn participant_first(
     shape: &Shape,
-    sent: &[u32],
-    received: &[u32],
+    sent: &[Counter],
+    received: &[Counter],
     me: u64,
     initiator: u64,
     purpose: u64,
@@ -173,8 +173,8 @@ pub fn participant_first(
 pub fn participant_receive(
     state: &mut Participant,
     shape: &Shape,
-    sent: &[u32],
-    received: &[u32],
+    sent: &[Counter],
+    received: &[Counter],
     message: &[u8],
     out: &mut [u8],
 ) -> Result<[u64; PROCESSES], u32> {

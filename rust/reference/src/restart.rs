@@ -1,6 +1,6 @@
 //! Restart orders and the move (K 5.4).
 
-use crate::book::{Book, Shape, PROCESSES};
+use crate::book::{Book, Counter, Shape, PROCESSES};
 use crate::line::line_of;
 use crate::machine::purpose_question;
 use crate::message::RESTART_ONLY;
@@ -41,14 +41,19 @@ fn order_of(book: &Book, purpose: u64) -> Order {
 }
 
 /// The restart order, without a move. Questions 2, 4 to 9, 11.
-pub fn restart_order(shape: &Shape, sent: &[u32], received: &[u32], purpose: u64) -> Result<Order, u32> {
+pub fn restart_order(shape: &Shape, sent: &[Counter], received: &[Counter], purpose: u64) -> Result<Order, u32> {
     let book = Book::accepted(shape, sent, received)?;
     purpose_question(purpose)?;
     Ok(order_of(&book, purpose))
 }
 
 /// Moves the line in the tables and answers the restart order. Questions 2, 4 to 9, 11.
-pub fn move_line(shape: &mut Shape, sent: &mut [u32], received: &mut [u32], purpose: u64) -> Result<Order, u32> {
+pub fn move_line(
+    shape: &mut Shape,
+    sent: &mut [Counter],
+    received: &mut [Counter],
+    purpose: u64,
+) -> Result<Order, u32> {
     let order = restart_order(shape, sent, received, purpose)?;
     keep_only(shape, &order, sent);
     keep_only(shape, &order, received);
@@ -61,7 +66,7 @@ pub fn move_line(shape: &mut Shape, sent: &mut [u32], received: &mut [u32], purp
 /// Keeps in one table the rows that do not go, one after another from the first row on, "each kept
 /// checkpoint's counters" lowered "by those that its own process's line checkpoint held". No kept
 /// row is written before its place is read: rows only go.
-fn keep_only(shape: &Shape, order: &Order, table: &mut [u32]) {
+fn keep_only(shape: &Shape, order: &Order, table: &mut [Counter]) {
     let (rows, _) = table.as_chunks_mut::<PROCESSES>();
     let mut read_from = 0;
     let mut write_to = 0;

@@ -1,10 +1,10 @@
 //! Sessions: "each participant has one strand to the initiator, with at most one message waiting on
 //! it. A turn names a participant and delivers that message; the replies are then waiting."
 
-use crate::book::{others, Book, Shape, MARK, PROCESSES};
+use crate::book::{others, Book, Counter, Shape, PROCESSES};
 use crate::initiator::Initiator;
 use crate::line::newer;
-use crate::machine::{participant_question, process_question, purpose_question};
+use crate::machine::{participant_question, process_question, purpose_question, TALLY_LIMIT};
 use crate::message::{lengths_of, longest, Message, Outbox, INVITATION, OTHER, RESTART_ONLY};
 use crate::participant::{Participant, ENDED};
 
@@ -130,7 +130,7 @@ impl Session {
     /// Question 13 of a session whose names have passed 10 and 11.
     fn fits(&self, book: &Book, strands: &[u8]) -> bool {
         self.n == book.n as u64
-            && self.delivered < MARK
+            && self.delivered < TALLY_LIMIT
             && self.machine.me == self.initiator
             && self.machine.purpose == self.purpose
             && self.machine.fits(book)
@@ -241,8 +241,8 @@ impl Session {
 /// 11, 17.
 pub fn session_start(
     shape: &Shape,
-    sent: &[u32],
-    received: &[u32],
+    sent: &[Counter],
+    received: &[Counter],
     initiator: u64,
     purpose: u64,
     strands: &mut [u8],
@@ -261,8 +261,8 @@ pub fn session_start(
 pub fn session_turn(
     session: &mut Session,
     shape: &Shape,
-    sent: &[u32],
-    received: &[u32],
+    sent: &[Counter],
+    received: &[Counter],
     p: u64,
     strands: &mut [u8],
 ) -> Result<(), u32> {
@@ -272,7 +272,13 @@ pub fn session_turn(
 }
 
 /// A search from its start to its end, "lowest waiting strand first". Questions 2, 4 to 11.
-pub fn search(shape: &Shape, sent: &[u32], received: &[u32], initiator: u64, purpose: u64) -> Result<Searched, u32> {
+pub fn search(
+    shape: &Shape,
+    sent: &[Counter],
+    received: &[Counter],
+    initiator: u64,
+    purpose: u64,
+) -> Result<Searched, u32> {
     let book = Book::accepted(shape, sent, received)?;
     process_question(book.n, initiator)?;
     purpose_question(purpose)?;

@@ -1,10 +1,12 @@
 //! Numbers of the book and of messages: "written in groups of seven bits, lowest group first, one
 //! group a byte; the byte's top bit is set when another group follows".
 
-const MOST_GROUPS: usize = 5;
+use crate::book::Counter;
+
+pub(crate) const MOST_GROUPS: usize = 5;
 
 /// Reads the number at `at` and moves `at` behind it; `None` where question 3 says no.
-pub(crate) fn read(bytes: &[u8], at: &mut usize) -> Option<u32> {
+pub(crate) fn read(bytes: &[u8], at: &mut usize) -> Option<Counter> {
     let mut value = 0u64;
     for group in 0..MOST_GROUPS {
         let byte = *bytes.get(*at)?;
@@ -13,24 +15,24 @@ pub(crate) fn read(bytes: &[u8], at: &mut usize) -> Option<u32> {
         if byte & 0x80 == 0 {
             // "Only the shortest form": a last group of zero could be left out.
             let shortest = byte != 0 || group == 0;
-            return u32::try_from(value).ok().filter(|_| shortest);
+            return Counter::try_from(value).ok().filter(|_| shortest);
         }
     }
     None
 }
 
 /// How many groups of `value` follow the first when it is written.
-pub(crate) fn further_groups(value: u32) -> u32 {
+pub(crate) fn further_groups(value: Counter) -> u32 {
     u32::from(value >= 1 << 7) + u32::from(value >= 1 << 14) + u32::from(value >= 1 << 21) + u32::from(value >= 1 << 28)
 }
 
 /// The number of bytes of `value` when written.
-pub(crate) fn size(value: u32) -> usize {
+pub(crate) fn size(value: Counter) -> usize {
     1 + further_groups(value) as usize
 }
 
 /// Writes `value` at `at` and moves `at` behind it; the caller has seen that it fits.
-pub(crate) fn write(mut value: u32, out: &mut [u8], at: &mut usize) {
+pub(crate) fn write(mut value: Counter, out: &mut [u8], at: &mut usize) {
     while value > 0x7f {
         out[*at] = (value & 0x7f) as u8 | 0x80;
         *at += 1;

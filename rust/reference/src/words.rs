@@ -3,7 +3,7 @@
 //! Each answers 0 if it accepts, and else the number of the first question that fails; it writes
 //! only if it accepts. A slice of words of the wrong length is refused first of all.
 
-use crate::book::{self, Book};
+use crate::book::{self, Book, Counter};
 use crate::layout::{shape_of, Decoder, Encoder};
 use crate::machine::{process_question, purpose_question};
 use crate::{initiator, line, participant, restart, session};
@@ -30,7 +30,7 @@ fn answer(call: impl FnOnce() -> Result<(), u32>) -> u32 {
 }
 
 /// `recovery_line_read`
-pub fn read(bytes: &[u8], shape: &mut [u64], sent: &mut [u32], received: &mut [u32]) -> u32 {
+pub fn read(bytes: &[u8], shape: &mut [u64], sent: &mut [Counter], received: &mut [Counter]) -> u32 {
     answer(|| {
         length_question(shape, SHAPE_WORDS)?;
         let read = book::read(bytes, sent, received)?;
@@ -40,7 +40,7 @@ pub fn read(bytes: &[u8], shape: &mut [u64], sent: &mut [u32], received: &mut [u
 }
 
 /// `recovery_line_check`
-pub fn check(shape: &[u64], sent: &[u32], received: &[u32]) -> u32 {
+pub fn check(shape: &[u64], sent: &[Counter], received: &[Counter]) -> u32 {
     answer(|| {
         length_question(shape, SHAPE_WORDS)?;
         book::check(&shape_of(shape), sent, received)
@@ -48,7 +48,7 @@ pub fn check(shape: &[u64], sent: &[u32], received: &[u32]) -> u32 {
 }
 
 /// `recovery_line_write`
-pub fn write(shape: &[u64], sent: &[u32], received: &[u32], out: &mut [u8], length: &mut u64) -> u32 {
+pub fn write(shape: &[u64], sent: &[Counter], received: &[Counter], out: &mut [u8], length: &mut u64) -> u32 {
     answer(|| {
         length_question(shape, SHAPE_WORDS)?;
         *length = book::write(&shape_of(shape), sent, received, out)? as u64;
@@ -57,7 +57,7 @@ pub fn write(shape: &[u64], sent: &[u32], received: &[u32], out: &mut [u8], leng
 }
 
 /// `recovery_line_test_set`: `pair` becomes 0 0 if the set is consistent.
-pub fn test_set(shape: &[u64], sent: &[u32], received: &[u32], set: &[u64], pair: &mut [u64]) -> u32 {
+pub fn test_set(shape: &[u64], sent: &[Counter], received: &[Counter], set: &[u64], pair: &mut [u64]) -> u32 {
     answer(|| {
         length_question(shape, SHAPE_WORDS)?;
         length_question(pair, PAIR_WORDS)?;
@@ -69,7 +69,7 @@ pub fn test_set(shape: &[u64], sent: &[u32], received: &[u32], set: &[u64], pair
 }
 
 /// `recovery_line_find`
-pub fn find(shape: &[u64], sent: &[u32], received: &[u32], line: &mut [u64], passed: &mut u64) -> u32 {
+pub fn find(shape: &[u64], sent: &[Counter], received: &[Counter], line: &mut [u64], passed: &mut u64) -> u32 {
     answer(|| {
         length_question(shape, SHAPE_WORDS)?;
         length_question(line, SET_WORDS)?;
@@ -83,8 +83,8 @@ pub fn find(shape: &[u64], sent: &[u32], received: &[u32], line: &mut [u64], pas
 /// `recovery_line_participant_first`
 pub fn participant_first(
     shape: &[u64],
-    sent: &[u32],
-    received: &[u32],
+    sent: &[Counter],
+    received: &[Counter],
     me: u64,
     initiator: u64,
     purpose: u64,
@@ -104,8 +104,8 @@ pub fn participant_first(
 pub fn participant_receive(
     state: &mut [u64],
     shape: &[u64],
-    sent: &[u32],
-    received: &[u32],
+    sent: &[Counter],
+    received: &[Counter],
     message: &[u8],
     out: &mut [u8],
     lengths: &mut [u64],
@@ -131,8 +131,8 @@ pub fn participant_receive(
 #[allow(clippy::too_many_arguments)]
 pub fn initiator_begin(
     shape: &[u64],
-    sent: &[u32],
-    received: &[u32],
+    sent: &[Counter],
+    received: &[Counter],
     me: u64,
     purpose: u64,
     state: &mut [u64],
@@ -155,8 +155,8 @@ pub fn initiator_begin(
 pub fn initiator_receive(
     state: &mut [u64],
     shape: &[u64],
-    sent: &[u32],
-    received: &[u32],
+    sent: &[Counter],
+    received: &[Counter],
     message: &[u8],
     out: &mut [u8],
     lengths: &mut [u64],
@@ -181,8 +181,8 @@ pub fn initiator_receive(
 /// `recovery_line_session_start`
 pub fn session_start(
     shape: &[u64],
-    sent: &[u32],
-    received: &[u32],
+    sent: &[Counter],
+    received: &[Counter],
     initiator: u64,
     purpose: u64,
     session: &mut [u64],
@@ -202,8 +202,8 @@ pub fn session_start(
 pub fn session_turn(
     session: &mut [u64],
     shape: &[u64],
-    sent: &[u32],
-    received: &[u32],
+    sent: &[Counter],
+    received: &[Counter],
     p: u64,
     strands: &mut [u8],
 ) -> u32 {
@@ -225,8 +225,8 @@ pub fn session_turn(
 #[allow(clippy::too_many_arguments)]
 pub fn search(
     shape: &[u64],
-    sent: &[u32],
-    received: &[u32],
+    sent: &[Counter],
+    received: &[Counter],
     initiator: u64,
     purpose: u64,
     set: &mut [u64],
@@ -247,7 +247,13 @@ pub fn search(
 }
 
 /// `recovery_line_move`
-pub fn move_line(shape: &mut [u64], sent: &mut [u32], received: &mut [u32], purpose: u64, order: &mut [u64]) -> u32 {
+pub fn move_line(
+    shape: &mut [u64],
+    sent: &mut [Counter],
+    received: &mut [Counter],
+    purpose: u64,
+    order: &mut [u64],
+) -> u32 {
     answer(|| {
         length_question(shape, SHAPE_WORDS)?;
         length_question(order, ORDER_WORDS)?;
@@ -260,7 +266,7 @@ pub fn move_line(shape: &mut [u64], sent: &mut [u32], received: &mut [u32], purp
 }
 
 /// `recovery_line_restart_order`
-pub fn restart_order(shape: &[u64], sent: &[u32], received: &[u32], purpose: u64, order: &mut [u64]) -> u32 {
+pub fn restart_order(shape: &[u64], sent: &[Counter], received: &[Counter], purpose: u64, order: &mut [u64]) -> u32 {
     answer(|| {
         length_question(shape, SHAPE_WORDS)?;
         length_question(order, ORDER_WORDS)?;

@@ -10,8 +10,8 @@ const K6: &str = "03 04 00 00 00 00 00 01 00 00 01 01 01 00 02 01 02 00 \
 
 struct Tables {
     shape: Shape,
-    sent: Vec<u32>,
-    received: Vec<u32>,
+    sent: Vec<Counter>,
+    received: Vec<Counter>,
 }
 
 fn bytes(hex: &str) -> Vec<u8> {

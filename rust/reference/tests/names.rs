@@ -1,6 +1,9 @@
 //! The names in a session, questions 10 and 11 of a turn: an empty place names nobody, and every other place is asked,
 //! wherever it is. What is wrong beside the names is then question 13's.
 
+mod places;
+
+use places::place_of;
 use reference::*;
 
 const K1: [u8; 28] = [
@@ -11,8 +14,8 @@ const TWO: [u8; 7] = [2, 1, 0, 0, 1, 0, 0];
 /// A book's tables, and a session that process 1 started on them.
 struct Started {
     shape: Shape,
-    sent: Vec<u32>,
-    received: Vec<u32>,
+    sent: Vec<Counter>,
+    received: Vec<Counter>,
     session: Session,
     strands: Vec<u8>,
 }
@@ -148,11 +151,12 @@ fn all_of_10_before_11_before_13() {
 fn a_place_is_empty_as_it_is_decoded() {
     let k1 = started(&K1);
     let shape: Vec<u64> = std::iter::once(k1.shape.n).chain(k1.shape.counts).collect();
-    let absent = 3 + words::INITIATOR_WORDS + 4 * words::PARTICIPANT_WORDS;
-    let (stage, candidate, row, column) = (4, 5, 6, 22);
+    let absent = |change: fn(&mut Participant)| place_of(&k1.session, |session| change(&mut session.participants[4]));
+    let (stage, candidate) = (absent(|state| state.stage = 1), absent(|state| state.candidate = 1));
+    let (row, column) = (absent(|state| state.row[0] = 1), absent(|state| state.column[0] = 1));
     let with = |word: usize, value: u64| {
         let mut session = words::session_words(&k1.session);
-        session[absent + word] = value;
+        session[word] = value;
         words::session_turn(&mut session, &shape, &k1.sent, &k1.received, 2, &mut k1.strands.clone())
     };
     assert_eq!(with(row, 0), 0);
@@ -162,5 +166,5 @@ fn a_place_is_empty_as_it_is_decoded() {
     assert_eq!(with(stage, 3), 10);
     assert_eq!(with(stage, 1 << 32), 10);
     assert_eq!(with(candidate, 1 << 32), 10);
-    assert_eq!(with(0, 1 << 32), 10, "n");
+    assert_eq!(with(absent(|state| state.n = 1), 1 << 32), 10, "n");
 }

@@ -1,13 +1,16 @@
 //! The order of the questions where 01's examples do not show it, and the calls over words.
 
+mod places;
+
+use places::place_of;
 use reference::*;
 
 /// Two processes with two checkpoints each: 1 sent one message, and received the one that 2 sent.
-fn tables() -> (Shape, Vec<u32>, Vec<u32>) {
+fn tables() -> (Shape, Vec<Counter>, Vec<Counter>) {
     tables_of(&[2, 2, 0, 0, 1, 1, 2, 0, 0, 1, 0])
 }
 
-fn tables_of(book: &[u8]) -> (Shape, Vec<u32>, Vec<u32>) {
+fn tables_of(book: &[u8]) -> (Shape, Vec<Counter>, Vec<Counter>) {
     let (mut sent, mut received) = (vec![0; ENTRIES], vec![0; ENTRIES]);
     let shape = read(book, &mut sent, &mut received).unwrap();
     (shape, sent, received)
@@ -123,8 +126,8 @@ fn a_session_fits() {
     assert_eq!(turn_after(|session| session.machine.awaited[1] = false), 13);
     // Question 13 lists nothing that forbids this; the report to come will not be awaited.
     assert_eq!(turn_after(|session| session.machine.ended = true), 0);
-    assert_eq!(turn_after(|session| session.machine.rounds = MARK - 1), 0);
-    assert_eq!(turn_after(|session| session.machine.rounds = MARK), 13);
+    assert_eq!(turn_after(|session| session.machine.rounds = TALLY_LIMIT - 1), 0);
+    assert_eq!(turn_after(|session| session.machine.rounds = TALLY_LIMIT), 13);
     assert_eq!(
         turn_after(|session| session.machine.copy[0][1] = 0),
         13,
@@ -231,15 +234,35 @@ fn bare_restart_ends_everybody_on_checkpoint_1() {
 fn words_of_the_wrong_length_are_refused_first() {
     let (mut sent, mut received) = (vec![3; 1], vec![3; 1]);
     let too_long = vec![0; BOOK_BYTES + 1];
-    assert_eq!(words::read(&too_long, &mut [0; 16], &mut sent, &mut received), 100);
-    assert_eq!(words::read(&too_long, &mut [0; 17], &mut sent, &mut received), 1);
-    assert_eq!(words::check(&[0; 18], &sent, &received), 100);
     assert_eq!(
-        words::session_turn(&mut [0; 1161], &[0; 17], &sent, &received, 1, &mut []),
+        words::read(&too_long, &mut [0; words::SHAPE_WORDS - 1], &mut sent, &mut received),
         100
     );
     assert_eq!(
-        words::session_turn(&mut [0; 1162], &[0; 17], &sent, &received, 1, &mut []),
+        words::read(&too_long, &mut [0; words::SHAPE_WORDS], &mut sent, &mut received),
+        1
+    );
+    assert_eq!(words::check(&[0; words::SHAPE_WORDS + 1], &sent, &received), 100);
+    assert_eq!(
+        words::session_turn(
+            &mut [0; words::SESSION_WORDS - 1],
+            &[0; words::SHAPE_WORDS],
+            &sent,
+            &received,
+            1,
+            &mut []
+        ),
+        100
+    );
+    assert_eq!(
+        words::session_turn(
+            &mut [0; words::SESSION_WORDS],
+            &[0; words::SHAPE_WORDS],
+            &sent,
+            &received,
+            1,
+            &mut []
+        ),
         2
     );
 }
@@ -247,6 +270,7 @@ fn words_of_the_wrong_length_are_refused_first() {
 #[test]
 fn words_that_do_not_decode_fail_13_after_the_names() {
     let (shape, sent, received) = tables();
+    let held = session_start(&shape, &sent, &received, 1, 1, &mut [0; 10]).unwrap();
     let shape = shape_words(&shape);
     let mut strands = [0; 10];
     let mut session = [0; words::SESSION_WORDS];
@@ -260,16 +284,21 @@ fn words_that_do_not_decode_fail_13_after_the_names() {
         assert!(answer == 0 || before == (damaged, strands));
         answer
     };
-    let delivered = words::SESSION_WORDS - 1;
-    let second_place = 3 + words::INITIATOR_WORDS + words::PARTICIPANT_WORDS;
+    let place = |change: fn(&mut Session)| place_of(&held, change);
+    let delivered = place(|session| session.delivered += 1);
+    let ended = place(|session| session.machine.ended ^= true);
+    let stage = place(|session| session.participants[1].stage += 1);
+    let process = place(|session| session.participants[1].me += 1);
+    let purpose = place(|session| session.participants[1].purpose += 1);
+    let row = place(|session| session.participants[1].row[0] ^= 1);
     assert_eq!(turn(delivered, 1 << 32, 2), 13);
-    assert_eq!(turn(delivered, u64::from(MARK), 2), 13);
+    assert_eq!(turn(delivered, u64::from(TALLY_LIMIT), 2), 13);
     assert_eq!(turn(delivered, 1 << 32, 1), 10);
-    assert_eq!(turn(3 + 3, 2, 2), 13, "flag of the end");
-    assert_eq!(turn(second_place + 4, 3, 2), 13, "stage");
-    assert_eq!(turn(second_place + 4, 1 << 32, 2), 13, "stage");
-    assert_eq!(turn(second_place + 1, (1 << 32) + 2, 2), 10, "process");
-    assert_eq!(turn(second_place + 3, 1 << 32, 2), 11, "purpose");
-    assert_eq!(turn(second_place + 6, 1 << 32, 2), 13, "row");
-    assert_eq!(turn(delivered, u64::from(MARK) - 1, 2), 0);
+    assert_eq!(turn(ended, 2, 2), 13);
+    assert_eq!(turn(stage, 3, 2), 13);
+    assert_eq!(turn(stage, 1 << 32, 2), 13);
+    assert_eq!(turn(process, (1 << 32) + 2, 2), 10);
+    assert_eq!(turn(purpose, 1 << 32, 2), 11);
+    assert_eq!(turn(row, 1 << 32, 2), 13);
+    assert_eq!(turn(delivered, u64::from(TALLY_LIMIT) - 1, 2), 0);
 }

@@ -16,8 +16,8 @@ impl Random {
 
 struct Tables {
     shape: Shape,
-    sent: Vec<u32>,
-    received: Vec<u32>,
+    sent: Vec<Counter>,
+    received: Vec<Counter>,
 }
 
 /// Tables of rising random counters: every accepted table can come out.
@@ -31,8 +31,8 @@ fn random_tables(random: &mut Random, most_processes: u64, most_checkpoints: u64
         for checkpoint in 0..*count {
             for partner in (0..n).filter(|&partner| partner != own && checkpoint > 0) {
                 let entry = PROCESSES * row + partner;
-                sent[entry] = sent[entry - PROCESSES] + random.below(4) as u32;
-                received[entry] = received[entry - PROCESSES] + random.below(3) as u32;
+                sent[entry] = sent[entry - PROCESSES] + random.below(4) as Counter;
+                received[entry] = received[entry - PROCESSES] + random.below(3) as Counter;
             }
             row += 1;
         }

@@ -4,7 +4,7 @@
 use crate::cells::Cells;
 use crate::machine::Role;
 use crate::tables::{Lent, Tables};
-use recovery_line::sys;
+use recovery_line::{sys, Counter};
 
 /// Calls a function with slices, then values, then slices; a slice is passed as its pointer and its length.
 macro_rules! call {
@@ -19,8 +19,8 @@ macro_rules! call {
 /// Tables that a call may only read.
 struct Reading {
     shape: Cells<u64>,
-    sent: Cells<u32>,
-    received: Cells<u32>,
+    sent: Cells<Counter>,
+    received: Cells<Counter>,
 }
 
 impl Reading {
@@ -39,7 +39,7 @@ impl Reading {
     }
 }
 
-pub fn read(book: &[u8], shape: &mut [u64], sent: &mut [u32], received: &mut [u32]) -> u32 {
+pub fn read(book: &[u8], shape: &mut [u64], sent: &mut [Counter], received: &mut [Counter]) -> u32 {
     let (mut bytes, mut shape_cells) = (Cells::of(book), Cells::of(shape));
     let (mut sent_cells, mut received_cells) = (Cells::of(sent), Cells::of(received));
     let question = call!(

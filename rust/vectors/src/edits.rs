@@ -1,6 +1,7 @@
 //! Edits that lines say.
 
 use crate::text;
+use recovery_line::Counter;
 
 /// A name, perhaps a dot and an index, and `=V`.
 pub struct Edit<'a> {
@@ -20,9 +21,9 @@ impl<'a> Edit<'a> {
         Some(Edit { name, index, value })
     }
 
-    /// The value, of 32 bits.
-    pub fn counter(&self) -> Option<u32> {
-        u32::try_from(self.value).ok()
+    /// The value as an entry, if it is one.
+    pub fn counter(&self) -> Option<Counter> {
+        Counter::try_from(self.value).ok()
     }
 
     /// Puts the value at the place that the index names, if there is one.

@@ -19,9 +19,11 @@ pub mod tables;
 pub mod text;
 pub mod trial;
 
+use recovery_line::Counter;
+
 /// What stands in whatever is lent before a call writes to it, so that a call that is refused, and what it does not
 /// write, shows.
 pub const IN_BYTES: u8 = 0xAA;
-pub const IN_SENT: u32 = 0xAAAA_AAAA;
-pub const IN_RECEIVED: u32 = 0x5555_5555;
+pub const IN_SENT: Counter = 0xAAAA_AAAA;
+pub const IN_RECEIVED: Counter = 0x5555_5555;
 pub const IN_WORDS: u64 = 0xAAAA_AAAA_AAAA_AAAA;

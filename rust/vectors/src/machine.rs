@@ -15,23 +15,25 @@ pub enum Role {
 
 /// Where a participant's fields begin.
 mod participant {
-    pub const INITIATOR: usize = 2;
-    pub const PURPOSE: usize = 3;
-    pub const STAGE: usize = 4;
-    pub const CANDIDATE: usize = 5;
-    pub const ROW: usize = 6;
-    pub const COLUMN: usize = 22;
+    pub use recovery_line::sys::RECOVERY_LINE_PARTICIPANT_CANDIDATE_AT as CANDIDATE;
+    pub use recovery_line::sys::RECOVERY_LINE_PARTICIPANT_COLUMN_AT as COLUMN;
+    pub use recovery_line::sys::RECOVERY_LINE_PARTICIPANT_INITIATOR_AT as INITIATOR;
+    pub use recovery_line::sys::RECOVERY_LINE_PARTICIPANT_PROCESS_AT as PROCESS;
+    pub use recovery_line::sys::RECOVERY_LINE_PARTICIPANT_PURPOSE_AT as PURPOSE;
+    pub use recovery_line::sys::RECOVERY_LINE_PARTICIPANT_ROW_AT as ROW;
+    pub use recovery_line::sys::RECOVERY_LINE_PARTICIPANT_STAGE_AT as STAGE;
 }
 
 /// Where an initiator's fields begin.
 mod initiator {
-    pub const PURPOSE: usize = 2;
-    pub const ENDED: usize = 3;
-    pub const CANDIDATE: usize = 4;
-    pub const ROUNDS: usize = 5;
-    pub const AWAITED: usize = 6;
-    pub const MATRIX: usize = 22;
-    pub const COPY: usize = 278;
+    pub use recovery_line::sys::RECOVERY_LINE_INITIATOR_AWAITED_AT as AWAITED;
+    pub use recovery_line::sys::RECOVERY_LINE_INITIATOR_CANDIDATE_AT as CANDIDATE;
+    pub use recovery_line::sys::RECOVERY_LINE_INITIATOR_COPY_AT as COPY;
+    pub use recovery_line::sys::RECOVERY_LINE_INITIATOR_ENDED_AT as ENDED;
+    pub use recovery_line::sys::RECOVERY_LINE_INITIATOR_MATRIX_AT as MATRIX;
+    pub use recovery_line::sys::RECOVERY_LINE_INITIATOR_PROCESS_AT as PROCESS;
+    pub use recovery_line::sys::RECOVERY_LINE_INITIATOR_PURPOSE_AT as PURPOSE;
+    pub use recovery_line::sys::RECOVERY_LINE_INITIATOR_ROUNDS_AT as ROUNDS;
 }
 
 impl Role {
@@ -46,18 +48,19 @@ impl Role {
     fn field(self, name: &str) -> Option<(usize, usize)> {
         let place = match (self, name) {
             (_, "n") => (0, 1),
-            (_, "me") => (1, 1),
+            (Role::Participant, "me") => (participant::PROCESS, 1),
+            (Role::Initiator, "me") => (initiator::PROCESS, 1),
             (Role::Participant, "initiator") => (participant::INITIATOR, 1),
             (Role::Participant, "purpose") => (participant::PURPOSE, 1),
             (Role::Participant, "candidate") => (participant::CANDIDATE, 1),
-            (Role::Participant, "row") => (participant::ROW, 16),
-            (Role::Participant, "column") => (participant::COLUMN, 16),
+            (Role::Participant, "row") => (participant::ROW, sys::RECOVERY_LINE_PROCESSES),
+            (Role::Participant, "column") => (participant::COLUMN, sys::RECOVERY_LINE_PROCESSES),
             (Role::Initiator, "purpose") => (initiator::PURPOSE, 1),
             (Role::Initiator, "candidate") => (initiator::CANDIDATE, 1),
             (Role::Initiator, "rounds") => (initiator::ROUNDS, 1),
-            (Role::Initiator, "awaited") => (initiator::AWAITED, 16),
-            (Role::Initiator, "matrix") => (initiator::MATRIX, 256),
-            (Role::Initiator, "copy") => (initiator::COPY, 256),
+            (Role::Initiator, "awaited") => (initiator::AWAITED, sys::RECOVERY_LINE_PROCESSES),
+            (Role::Initiator, "matrix") => (initiator::MATRIX, sys::RECOVERY_LINE_MATRIX_ENTRIES),
+            (Role::Initiator, "copy") => (initiator::COPY, sys::RECOVERY_LINE_MATRIX_ENTRIES),
             _ => return None,
         };
         Some(place)

@@ -3,16 +3,14 @@
 use crate::machine::{self, Machine, Role};
 use crate::tables::PROCESSES;
 use crate::text::Answer;
-use recovery_line::sys;
+use recovery_line::sys::{
+    self, RECOVERY_LINE_SESSION_DELIVERED_AT as DELIVERED, RECOVERY_LINE_SESSION_INITIATOR_AT as INITIATOR,
+    RECOVERY_LINE_SESSION_LENGTHS_AT as LENGTHS, RECOVERY_LINE_SESSION_MACHINE_AT as MACHINE,
+    RECOVERY_LINE_SESSION_PARTICIPANTS_AT as PARTICIPANTS, RECOVERY_LINE_SESSION_PURPOSE_AT as PURPOSE,
+};
 use std::ops::Range;
 
 const N: usize = 0;
-const INITIATOR: usize = 1;
-const PURPOSE: usize = 2;
-const MACHINE: usize = 3;
-const PARTICIPANTS: usize = MACHINE + sys::RECOVERY_LINE_INITIATOR_WORDS;
-const LENGTHS: usize = PARTICIPANTS + PROCESSES * sys::RECOVERY_LINE_PARTICIPANT_WORDS;
-const DELIVERED: usize = LENGTHS + PROCESSES;
 
 #[derive(Clone, PartialEq)]
 pub struct Session(pub Vec<u64>);

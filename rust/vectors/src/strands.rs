@@ -1,4 +1,5 @@
-//! Where the strands' messages lie in the lent buffer: a slot for each participant, in rising order, of 6n - 2 bytes.
+//! Where the strands' messages lie in the lent buffer: a slot for each participant, in rising order, as long as the longest
+//! message.
 //! Worked out here anew, so that a session with another layout shows.
 
 use crate::session::Session;
@@ -6,17 +7,26 @@ use crate::tables::PROCESSES;
 use crate::text::Answer;
 use std::ops::Range;
 
-/// The longest messages of sixteen processes: fifteen slots of 94 bytes.
-pub const STRANDS: usize = 1410;
+/// The most bytes of a number, of the four numbers before a message's pairs, and of a pair.
+const GROUPS: usize = 5;
+const HEAD_BYTES: usize = 4;
+const PAIR_BYTES: usize = 1 + GROUPS;
+
+/// The longest messages of sixteen processes, one for each participant.
+pub const STRANDS: usize = (PROCESSES - 1) * longest(PROCESSES);
 
 /// A mark for each strand.
 pub type Marks = [bool; PROCESSES];
 
+const fn longest(n: usize) -> usize {
+    HEAD_BYTES + (n - 1) * PAIR_BYTES
+}
+
 /// How many bytes the longest message of n processes takes; of no such n, as many as there can be.
 fn slot_size(n: u64) -> usize {
     match n {
-        1..=16 => 6 * n as usize - 2,
-        _ => 94,
+        1..=16 => longest(n as usize),
+        _ => longest(PROCESSES),
     }
 }
 

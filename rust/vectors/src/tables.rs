@@ -1,7 +1,7 @@
 //! Shapes and tables.
 
 use crate::{calls, text, IN_BYTES, IN_RECEIVED, IN_SENT, IN_WORDS};
-use recovery_line::sys;
+use recovery_line::{sys, Counter};
 
 pub const ENTRIES: usize = sys::RECOVERY_LINE_TABLE_ENTRIES;
 pub const PROCESSES: usize = sys::RECOVERY_LINE_PROCESSES;
@@ -21,12 +21,12 @@ pub const NO_SHAPE: Shape = [0; sys::RECOVERY_LINE_SHAPE_WORDS];
 /// The two tables.
 #[derive(Clone, PartialEq)]
 pub struct Counters {
-    pub sent: Vec<u32>,
-    pub received: Vec<u32>,
+    pub sent: Vec<Counter>,
+    pub received: Vec<Counter>,
 }
 
 impl Counters {
-    pub fn filled(sent: u32, received: u32) -> Counters {
+    pub fn filled(sent: Counter, received: Counter) -> Counters {
         Counters {
             sent: vec![sent; ENTRIES],
             received: vec![received; ENTRIES],
@@ -91,8 +91,8 @@ impl Tables {
 #[derive(Clone, Copy)]
 pub struct Lent<'a> {
     pub shape: &'a [u64],
-    pub sent: &'a [u32],
-    pub received: &'a [u32],
+    pub sent: &'a [Counter],
+    pub received: &'a [Counter],
 }
 
 impl<'a> Lent<'a> {

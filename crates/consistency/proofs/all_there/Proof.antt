@@ -1,27 +1,25 @@
 -- `all_there` meets its contract. The invariant: every checkpoint so far is there.
-use mathlib.Core.Path.{_≡_, sym, _∙_}
+use mathlib.Core.Path.{_≡_}
 use mathlib.Core.Bool.{true}
-use Prim.Native.Nat.{ℕ, _-_, _≤_, _<_}
+use Prim.Native.Nat.{_-_}
 use native.Mathlib.Omega.{arith}
 use borrow.Author.Needs.{needs}
-use borrow.Author.Tests.{not-true, not-false}
 use lib.ListN.{getD}
 use lib.Dec.{ltb}
-use Rattle.book.specs.View.{count}
-use Rattle.consistency.specs.Set.{chosen, isThere}
-use Rattle.lists.proofs.Fills.{below-more}
-use Rattle.consistency.proofs.There.{there-all, there-not}
+use Rattle.lists.proofs.Tests.{told-no, told-yes}
+use Rattle.lists.proofs.Before.{Before, before-none, before-more, all-pass, one-fails}
+use Rattle.consistency.specs.Set.{chosen, isThere, allThere}
 use Rattle.consistency.proofs.all_there.Statement.{statement}
 use Rattle.consistency.proofs.all_there.Tie as tie
 
 abbrev Inv-loop : tie.InvT-loop
-Inv-loop set n counts j₀ j = (j ≤ 16) × ((i : ℕ) → i < j → isThere (ltb i n) (getD counts i 0) (chosen set i) ≡ true)
+Inv-loop set n counts j₀ j = Before 16 (λ i. isThere (ltb i n) (getD counts i 0) (chosen set i) ≡ true) j
 
 abbrev μ-loop : tie.MeasureT-loop
 μ-loop set n counts j₀ j = 16 - j
 
 loop-holds : tie.Need-loop-holds Inv-loop μ-loop
-loop-holds c = (omega arith, λ i h. absurd (omega arith))
+loop-holds c = before-none
 
 mul-r : tie.Need-mul-r Inv-loop μ-loop
 mul-r c = omega arith
@@ -39,9 +37,9 @@ is-there-requires : tie.Need-is-there-requires Inv-loop μ-loop
 is-there-requires c κs = search needs
 
 returns : tie.Need-returns Inv-loop μ-loop
+unfolding allThere
 returns c =
-    let a = c .before .before .before .before .before .before .args in
-    sym (there-not (a .shape) (a .t2) (c .before .before .before .before .loop .j) (omega arith) (sym (c .before .is-there .ensures) ∙ not-true (c .before .is-there .result) (c .if1 .taken)))
+    one-fails (c .before .before .before .before .loop .inv) (c .before .before .before .loop-test .taken) (told-no (c .before .is-there .ensures) (c .if1 .taken))
 
 add-j : tie.Need-add-j Inv-loop μ-loop
 add-j c = omega arith
@@ -51,17 +49,11 @@ loop-less c = search needs
 
 loop-again : tie.Need-loop-again Inv-loop μ-loop
 loop-again c =
-    let a = c .before .before .before .before .before .before .args in
-    let at-loop = c .before .before .before .before .loop in (
-      omega arith,
-      below-more (λ i. isThere (ltb i (a .shape .n)) (count (a .shape) i) (chosen (a .t2) i) ≡ true) (at-loop .j) (at-loop .inv .1)
-          (sym (c .before .is-there .ensures) ∙ not-false (c .before .is-there .result) (c .if1 .left)),
-    )
+    before-more (c .before .before .before .before .loop .inv) (c .before .before .before .loop-test .taken) (told-yes (c .before .is-there .ensures) (c .if1 .left))
 
 returns-2 : tie.Need-returns-2 Inv-loop μ-loop
-returns-2 c =
-    let a = c .before .before .before .args in
-    sym (there-all (a .shape) (a .t2) (λ j i. c .before .loop .inv .1 j (omega arith)))
+unfolding allThere
+returns-2 c = all-pass (c .before .loop .inv) (c .loop-test .left)
 
 pub all-there-spec : {M : Type 1} → statement M
 all-there-spec =

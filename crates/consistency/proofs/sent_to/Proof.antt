@@ -1,27 +1,27 @@
 -- `sent_to` meets its contract. The invariant: the counters so far are those of the set's checkpoints.
-use mathlib.Core.Path.{_≡_, refl, _∙_}
-use Prim.Native.Nat.{ℕ, _-_, _≤_, _<_}
+use mathlib.Core.Path.{_≡_, ap, _∙_}
+use Prim.Native.Nat.{ℕ, _-_, _<_}
 use native.Mathlib.Omega.{arith}
 use borrow.Author.Needs.{needs}
-use lib.ListN.{length, getD, length-set}
+use lib.ListN.{length, getD}
 use Rattle.book.specs.declared.Count.{Count}
 use Rattle.book.specs.View.{counterFrom}
+use Rattle.book.proofs.Values.{tally, tally-of}
 use Rattle.book.proofs.Starts.{placed-row, placed-counter}
 use Rattle.consistency.specs.Set.{chosen}
-use Rattle.consistency.specs.Known.{counters}
-use Rattle.lists.proofs.Fills.{fill-more}
+use Rattle.lists.proofs.Filling.{Filled, filled-none, filled-more}
 use Rattle.consistency.proofs.sent_to.Statement.{statement}
 use Rattle.consistency.proofs.sent_to.Tie as tie
 
 abbrev Inv-loop : tie.InvT-loop
 Inv-loop sent j set n first known₀ p₀ known p =
-    (p ≤ n) × ((length known ≡ 16) × ((q : ℕ) → q < p → counters known q ≡ counterFrom sent (getD first q 0) (chosen set q) (j .0 - 1)))
+    Filled (tally 0) known₀ n (λ q. tally (counterFrom sent (getD first q 0) (chosen set q) (j .0 - 1))) known p
 
 abbrev μ-loop : tie.MeasureT-loop
 μ-loop sent j set n first known₀ p₀ known p = n - p
 
 loop-holds : tie.Need-loop-holds Inv-loop μ-loop
-loop-holds c = (omega arith, (refl, λ q h. absurd (omega arith)))
+loop-holds c = filled-none (omega arith)
 
 -- where the first rows are taken out
 there : (c : tie.After-first Inv-loop μ-loop) → let a = c .before .before .before .args in (p : ℕ) → p < a .rows .shape .n → p < length (a .rows .shape .counts)
@@ -65,22 +65,12 @@ loop-less : tie.Need-loop-less Inv-loop μ-loop
 loop-less c = search needs
 
 loop-again : tie.Need-loop-again Inv-loop μ-loop
-loop-again c =
-    let at-loop = c .before .before .before in
-    let a = at-loop .before .before .before .before .args in
-    let P : ℕ → Count → Type 0 = λ q v. v .0 ≡ counterFrom (a .sent .now) (getD (a .rows .first) q 0) (chosen (a .t3) q) (a .j .0 - 1) in (
-      omega arith,
-      (
-        simp length-set (at-loop .loop .inv .1 .0),
-        fill-more P (record { 0 = 0 }) (at-loop .loop .known) (at-loop .loop .p) (c .counter .result) (omega (arith, at-loop .loop .inv .1 .0))
-            (at-loop .loop .inv .1 .1) (c .counter .ensures),
-      ),
-    )
+loop-again c = filled-more (c .before .before .before .loop .inv) (omega arith) (tally-of (c .counter .ensures))
 
 returns : tie.Need-returns Inv-loop μ-loop
 returns c = λ p i.
     let at = c .before .before .before .before .before in
-    c .before .loop .inv .1 .1 p (omega arith)
+    ap (λ (v : Count). v .0) (c .before .loop .inv .done p (omega arith))
     ∙ placed-counter (at .pre .0 .0 .placed) p (there (c .before .before) p i) (at .args .sent .now) (chosen (at .args .t3) p) (at .args .j .0 - 1)
 
 pub sent-to-spec : {M : Type 1} → statement M

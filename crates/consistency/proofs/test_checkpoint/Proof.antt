@@ -1,20 +1,21 @@
 -- `test_checkpoint` meets its contract. The invariant: from the partners so far no more was received than is known to be
 -- sent.
 use mathlib.Core.Path.{_≡_}
-use Prim.Native.Nat.{ℕ, _-_, _≤_, _<_}
+use Prim.Native.Nat.{_-_, _≤_, _<_}
 use native.Mathlib.Omega.{arith}
 use borrow.Author.Needs.{needs}
 use lib.ListN.{length, getD}
 use Rattle.book.specs.View.{firstRow, counterFrom}
 use Rattle.book.proofs.Starts.{placed-first, placed-row}
 use Rattle.line_theory.proofs.Tests.{permitted-out}
+use Rattle.lists.proofs.Before.{Before, before-none, before-more, before-all}
 use Rattle.consistency.specs.Known.{counters}
-use Rattle.consistency.proofs.Permits.{known-more, offends}
+use Rattle.consistency.proofs.Permits.{known-here, offends}
 use Rattle.consistency.proofs.test_checkpoint.Statement.{statement}
 use Rattle.consistency.proofs.test_checkpoint.Tie as tie
 
 abbrev Inv-loop : tie.InvT-loop
-Inv-loop received r known n place first p₀ p = (p ≤ n) × ((q : ℕ) → q < p → counterFrom received first (r .0) q ≤ counters known q)
+Inv-loop received r known n place first p₀ p = Before n (λ q. counterFrom received first (r .0) q ≤ counters known q) p
 
 abbrev μ-loop : tie.MeasureT-loop
 μ-loop received r known n place first p₀ p = n - p
@@ -29,7 +30,7 @@ array-read-first : tie.Need-array-read-first Inv-loop μ-loop
 array-read-first c = omega arith
 
 loop-holds : tie.Need-loop-holds Inv-loop μ-loop
-loop-holds c = (omega arith, λ q h. absurd (omega arith))
+loop-holds c = before-none
 
 -- where the first row is taken out
 there : (c : tie.After-struct-known Inv-loop μ-loop) → let a = c .before .before .before .before .args in
@@ -80,17 +81,16 @@ loop-less c = search needs
 loop-again : tie.Need-loop-again Inv-loop μ-loop
 loop-again c =
     let at-loop = c .before .before .before .before .before .before in
-    let a = at-loop .before .before .before .before .before .args in (
-      omega arith,
-      known-more (λ p. counterFrom (a .received .now) (getD (a .rows .first) (a .j .0 - 1) 0) (a .r .0) p) (counters (a .t5)) (at-loop .loop .p)
-          (at-loop .loop .inv .1) (omega (arith, c .before .before .before .before .counter .ensures)),
-    )
+    let a = at-loop .before .before .before .before .before .args in
+    before-more (at-loop .loop .inv) (omega arith)
+    (known-here (λ p. counterFrom (a .received .now) (getD (a .rows .first) (a .j .0 - 1) 0) (a .r .0) p) (counters (a .t5)) (at-loop .loop .p)
+    (omega (arith, c .before .before .before .before .counter .ensures)))
 
 returns-2 : tie.Need-returns-2 Inv-loop μ-loop
 returns-2 c =
     let a = c .before .before .before .before .before .before .args in
     rw (← begins (c .before .before)) (permitted-out (a .rows .shape .n) (λ p. counterFrom (a .received .now) _ (a .r .0) p) (counters (a .t5))
-    (λ p i. c .before .loop .inv .1 p (omega arith)))
+    (before-all (c .before .loop .inv) (omega arith)))
 
 pub test-checkpoint-spec : {M : Type 1} → statement M
 test-checkpoint-spec =

@@ -2,10 +2,13 @@
 use Prim.Native.Nat.{_-_}
 use native.Mathlib.Omega.{arith}
 use borrow.Author.Needs.{needs}
+use Rattle.book.specs.Lent.{lent}
+use Rattle.line_theory.proofs.Accepted.{rows-few}
 use Rattle.line_theory.specs.OfTables.{viewOf}
 use Rattle.line_theory.specs.Search.{sentTo}
 use Rattle.consistency.specs.Set.{chosen}
 use Rattle.consistency.specs.Known.{counters}
+use Rattle.consistency.proofs.Calls.{sent-whole, received-whole}
 use Rattle.consistency.proofs.Permits.{permits-ext}
 use Rattle.consistency.proofs.test_in_set.Statement.{statement}
 use Rattle.consistency.proofs.test_in_set.Tie as tie
@@ -13,27 +16,26 @@ use Rattle.consistency.proofs.test_in_set.Tie as tie
 sent-to-requires : tie.Need-sent-to-requires
 sent-to-requires c κs =
     let pre = c .before .before .pre in
-    ((pre .0 .in-sent, pre .1), λ p i. (pre .0 .is-set .some p i, pre .0 .is-set .among p i))
+    ((sent-whole (pre .0 .0), pre .0 .1), pre .1)
 
 sub-i : tie.Need-sub-i
 sub-i c = search needs
 
 mul-r : tie.Need-mul-r
-mul-r c = omega arith
+mul-r c = omega (arith, rows-few)
 
 array-copy-out-r : tie.Need-array-copy-out-r
-array-copy-out-r c = omega arith
+array-copy-out-r c = omega (arith, rows-few)
 
 test-checkpoint-requires : tie.Need-test-checkpoint-requires
 test-checkpoint-requires c κs =
     let pre = c .before .before .before .before .before .pre in
-    let j = c .before .before .before .before .before .args .j .0 - 1 in
-    ((pre .0 .in-received, pre .1), (pre .0 .is-set .some j (omega arith), pre .0 .is-set .among j (omega arith)))
+    ((received-whole (pre .0 .0), pre .0 .1), pre .1 (c .before .before .before .before .before .args .j .0 - 1) (omega arith))
 
 returns : tie.Need-returns
 returns c =
     let a = c .before .before .before .before .before .before .args in
-    let v = viewOf (a .rows .shape) (a .sent .now) (a .received .now) in
+    let v = viewOf (lent (a .rows .shape) (a .sent .now) (a .received .now)) in
     let j = a .j .0 - 1 in
     permits-ext (v .n) (v .R j (chosen (a .t4) j)) (counters (c .before .before .before .sent-to .result)) (sentTo v (chosen (a .t4)) j) (c .test-checkpoint .result)
     (c .before .before .before .sent-to .ensures) (c .test-checkpoint .ensures)

@@ -7,8 +7,10 @@ use native.Mathlib.Omega.{arith}
 use borrow.Author.Needs.{needs}
 use lib.ListN.{length}
 use Rattle.book.specs.declared.Checkpoint.{Checkpoint}
+use Rattle.book.specs.Accepted.{AcceptedRows}
+use Rattle.line_theory.proofs.Accepted.{accepted-size}
 use Rattle.consistency.specs.Set.{chosen}
-use Rattle.consistency.specs.Given.{SetGiven}
+use Rattle.consistency.specs.Given.{AllNamed}
 use Rattle.finder.specs.Steps.{SameSet, setAt, ForSixteen}
 use Rattle.finder.proofs.Rows.{given-named, rows-given}
 use Rattle.finder.proofs.StepsBack.{FoundSoFar, found-begun, found-named, found-rows, found-some, found-few, found-more, found-ended}
@@ -17,30 +19,30 @@ use Rattle.finder.proofs.find_from.Tie as tie
 
 abbrev Inv-loop : tie.InvT-loop
 Inv-loop rows sent received n at₀ flags₀ passed₀ j₀ at flags passed j =
-    (start : List Checkpoint) → SetGiven rows sent received start → SameSet (rows .shape .n) (setAt (rows .shape .counts) at₀) (chosen start)
+    (start : List Checkpoint) → AcceptedRows rows sent received → AllNamed (rows .shape) start → SameSet (rows .shape .n) (setAt (rows .shape .counts) at₀) (chosen start)
     → FoundSoFar rows sent received start at flags passed j
 
 abbrev μ-loop : tie.MeasureT-loop
 μ-loop rows sent received n at₀ flags₀ passed₀ j₀ at flags passed j = 256 - passed
 
 rows-at-requires : tie.Need-rows-at-requires Inv-loop μ-loop
-rows-at-requires c κs = given-named _ (c .before .before .before .pre .0) (λ j k. refl)
+rows-at-requires c κs = let start = c .before .before .before in given-named (start .args .set) _ (start .pre .0 .0) (start .pre .0 .1) (λ j k. refl)
 
 flags-of-requires : tie.Need-flags-of-requires Inv-loop μ-loop
 flags-of-requires c κs =
-    let given = c .before .before .before .before .before .pre .0 in
+    let start = c .before .before .before .before .before in
     let at = c .before .rows-at in
-    rows-given (at .result) given (given-named _ given (at .ensures))
+    rows-given (at .result) (start .pre .0 .0) (given-named (start .args .set) _ (start .pre .0 .0) (start .pre .0 .1) (at .ensures))
 
 first-flagged-requires : tie.Need-first-flagged-requires Inv-loop μ-loop
-first-flagged-requires c κs = c .before .before .before .before .before .before .before .pre .0 .in-sent .most
+first-flagged-requires c κs = accepted-size (c .before .before .before .before .before .before .before .pre .0 .0 .accepted) .1
 
 both-long : (c : tie.After-first-flagged Inv-loop μ-loop) → ForSixteen (c .before .before .before .before .rows-at .result) (c .before .before .flags-of .result)
 both-long c = (search needs, search needs)
 
 loop-holds : tie.Need-loop-holds Inv-loop μ-loop
 loop-holds c =
-    λ start given same. found-begun (c .before .before .before .before .rows-at .result) (c .before .before .flags-of .result) given same (both-long c)
+    λ start given named same. found-begun start (c .before .before .before .before .rows-at .result) (c .before .before .flags-of .result) given named same (both-long c)
     (c .before .before .flags-of .ensures) (c .first-flagged .ensures)
 
 -- from the set that is given
@@ -48,7 +50,7 @@ found : (c : tie.At-loop Inv-loop μ-loop) → let a = c .before .before .before
     FoundSoFar (a .rows) (a .sent .now) (a .received .now) (a .set) (c .loop .at) (c .loop .flags) (c .loop .passed) (c .loop .j)
 found c =
     let start = c .before .before .before .before .before .before .before .before .before in
-    c .loop .inv (start .args .set) (start .pre .0) (c .before .before .before .before .before .rows-at .ensures)
+    c .loop .inv (start .args .set) (start .pre .0 .0) (start .pre .0 .1) (c .before .before .before .before .before .rows-at .ensures)
 
 step-back-requires : tie.Need-step-back-requires Inv-loop μ-loop
 step-back-requires c κs =
@@ -60,7 +62,7 @@ add-passed : tie.Need-add-passed Inv-loop μ-loop
 add-passed c = let turn = c .before .before .before in omega (arith, found-few (found (turn .before)) (turn .loop-test .taken))
 
 first-flagged-requires-2 : tie.Need-first-flagged-requires-2 Inv-loop μ-loop
-first-flagged-requires-2 c κs = found (c .before .before .before .before .before) .given .in-sent .most
+first-flagged-requires-2 c κs = accepted-size (found (c .before .before .before .before .before) .given .accepted) .1
 
 loop-less : tie.Need-loop-less Inv-loop μ-loop
 loop-less c = let turn = c .before .before .before .before .before in omega (arith, found-few (found (turn .before)) (turn .loop-test .taken))
@@ -69,7 +71,7 @@ loop-again : tie.Need-loop-again Inv-loop μ-loop
 loop-again c =
     let step = c .before .before .step-back in
     let turn = c .before .before .before .before .before in
-    λ start given same. found-more (turn .before .loop .inv start given same) (turn .loop-test .taken)
+    λ start given named same. found-more (turn .before .loop .inv start given named same) (turn .loop-test .taken)
     (step .last .1 .1 .0) (step .last .1 .1 .1 .0) (step .ensures .0) (step .ensures .1) (c .first-flagged2 .ensures)
 
 set-at-requires : tie.Need-set-at-requires Inv-loop μ-loop

@@ -1,22 +1,22 @@
 -- `first_flagged` meets its contract. The invariant: no process so far is flagged.
 use mathlib.Core.Path.{_≡_}
 use mathlib.Core.Bool.{false}
-use Prim.Native.Nat.{ℕ, _-_, _≤_, _<_}
+use Prim.Native.Nat.{_-_}
 use native.Mathlib.Omega.{arith}
 use borrow.Author.Needs.{needs}
+use Rattle.lists.proofs.Before.{Before, before-none, before-more}
 use Rattle.finder.specs.Steps.{flagged}
-use Rattle.lists.proofs.Fills.{below-more}
 use Rattle.finder.proofs.first_flagged.Statement.{statement}
 use Rattle.finder.proofs.first_flagged.Tie as tie
 
 abbrev Inv-loop : tie.InvT-loop
-Inv-loop flags n j₀ j = (j ≤ n) × ((i : ℕ) → i < j → flagged flags i ≡ false)
+Inv-loop flags n j₀ j = Before n (λ i. flagged flags i ≡ false) j
 
 abbrev μ-loop : tie.MeasureT-loop
 μ-loop flags n j₀ j = n - j
 
 loop-holds : tie.Need-loop-holds Inv-loop μ-loop
-loop-holds c = (omega arith, λ i h. absurd (omega arith))
+loop-holds c = before-none
 
 element-copy-out-if1 : tie.Need-element-copy-out-if1 Inv-loop μ-loop
 element-copy-out-if1 c = omega arith
@@ -24,7 +24,7 @@ element-copy-out-if1 c = omega arith
 returns : tie.Need-returns Inv-loop μ-loop
 returns c =
     let at-loop = c .before .before .before .loop in
-    record { within = omega arith; here = λ _. c .if1 .taken; before = at-loop .inv .1 }
+    record { within = omega arith; here = λ _. c .if1 .taken; before = at-loop .inv .so-far }
 
 add-j : tie.Need-add-j Inv-loop μ-loop
 add-j c = omega arith
@@ -33,12 +33,10 @@ loop-less : tie.Need-loop-less Inv-loop μ-loop
 loop-less c = search needs
 
 loop-again : tie.Need-loop-again Inv-loop μ-loop
-loop-again c =
-    let at-loop = c .before .before .before in
-    (omega arith, below-more (λ i. flagged (at-loop .before .args .flags .now) i ≡ false) (at-loop .loop .j) (at-loop .loop .inv .1) (c .if1 .left))
+loop-again c = before-more (c .before .before .before .loop .inv) (omega arith) (c .if1 .left)
 
 returns-2 : tie.Need-returns-2 Inv-loop μ-loop
-returns-2 c = record { within = omega arith; here = λ h. absurd (omega arith); before = λ i k. c .before .loop .inv .1 i (omega arith) }
+returns-2 c = record { within = omega arith; here = λ h. absurd (omega arith); before = λ i k. c .before .loop .inv .so-far i (omega arith) }
 
 pub first-flagged-spec : {M : Type 1} → statement M
 first-flagged-spec =

@@ -1,18 +1,19 @@
--- `flag_at_fault` meets its contract.
+-- `flag_at_fault` meets its contract. The invariant: the flags so far are set beside those that were.
 use mathlib.Core.Path.{sym, subst}
-use mathlib.Core.Bool.{Bool}
+use mathlib.Core.Bool.{Bool, false}
 use mathlib.Core.List.{List}
 use mathlib.Core.Logic.{⊎-elim}
 use Prim.Native.Nat.{_+_, _-_, _<_}
 use native.Mathlib.Omega.{arith}
 use borrow.Author.Needs.{needs}
 use Rattle.finder.specs.Steps.{rowOf, byRow}
-use Rattle.finder.proofs.Flags.{Flagging, flagging-none, flagging-more, flagging-kept}
+use Rattle.lists.proofs.Filling.{Filled, filled-none, filled-more, filled-kept}
+use Rattle.finder.proofs.Flags.{beside, beside-set, beside-kept}
 use Rattle.finder.proofs.flag_at_fault.Statement.{statement}
 use Rattle.finder.proofs.flag_at_fault.Tie as tie
 
 abbrev Inv-loop : tie.InvT-loop
-Inv-loop sent received at flags₀ n j own p₀ flags p = Flagging (byRow n sent received) (rowOf at) j flags₀ flags p
+Inv-loop sent received at flags₀ n j own p₀ flags p = Filled false flags₀ n (beside (byRow n sent received) (rowOf at) j flags₀) flags p
 
 abbrev μ-loop : tie.MeasureT-loop
 μ-loop sent received at flags₀ n j own p₀ flags p = n - p
@@ -34,9 +35,7 @@ mul-own-2 : tie.Need-mul-own-2 Inv-loop μ-loop
 mul-own-2 c = omega (arith, own-row (c .before))
 
 loop-holds : tie.Need-loop-holds Inv-loop μ-loop
-loop-holds c =
-    let a = c .before .args in
-    flagging-none (byRow (a .n) (a .sent .now) (a .received .now)) (rowOf (a .at .now)) (a .j) (a .flags .now) (c .before .pre .1 .1)
+loop-holds c = filled-none (omega arith)
 
 mul-other : tie.Need-mul-other Inv-loop μ-loop
 mul-other c = omega arith
@@ -78,15 +77,17 @@ loop-again : tie.Need-loop-again Inv-loop μ-loop
 loop-again c =
     let at-loop = c .before .before .before .before .before in
     let a = at-loop .before .before .args in
-    let most = at-loop .before .before .pre .0 .most in
-    let P : List Bool → Type 0 = λ l. Flagging (byRow (a .n) (a .sent .now) (a .received .now)) (rowOf (a .at .now)) (a .j) (a .flags .now) l (at-loop .loop .p + 1) in
+    let v = byRow (a .n) (a .sent .now) (a .received .now) in
+    let set = rowOf (a .at .now) in
+    let before = a .flags .now in
+    let P : List Bool → Type 0 = λ l. Filled false before (a .n) (beside v set (a .j) before) l (at-loop .loop .p + 1) in
     ⊎-elim
-    (λ t. subst P (sym (t .1)) (flagging-more most (at-loop .loop .inv) (omega arith) (t .0 .taken)))
-    (λ t. subst P (sym (t .1)) (flagging-kept most (at-loop .loop .inv) (omega arith) (t .0 .left)))
+    (λ t. subst P (sym (t .1)) (filled-more (at-loop .loop .inv) (omega arith) (beside-set v set (a .j) before (at-loop .loop .p) (t .0 .taken))))
+    (λ t. subst P (sym (t .1)) (filled-kept (at-loop .loop .inv) (omega arith) (beside-kept v set (a .j) before (at-loop .loop .p) (t .0 .left))))
     (c .if1 .came)
 
 returns : tie.Need-returns Inv-loop μ-loop
-returns c = (λ p i. c .before .loop .inv .done p (omega arith), c .before .loop .inv .long)
+returns c = (λ p i. c .before .loop .inv .done p (omega arith), omega arith)
 
 pub flag-at-fault-spec : {M : Type 1} → statement M
 flag-at-fault-spec =

@@ -1,24 +1,22 @@
 -- `flags_of` meets its contract. The invariant: the flags so far say who must step back.
-use mathlib.Core.Path.{_≡_, refl}
-use mathlib.Core.Bool.{Bool, false}
-use Prim.Native.Nat.{ℕ, _-_, _≤_, _<_}
+use mathlib.Core.Bool.{false}
+use Prim.Native.Nat.{_-_}
 use native.Mathlib.Omega.{arith}
 use borrow.Author.Needs.{needs}
-use lib.ListN.{length, length-set}
-use Rattle.lists.proofs.Fills.{fill-more}
-use Rattle.finder.specs.Steps.{rowOf, byRow, flagged, mustStepBack}
+use Rattle.lists.proofs.Filling.{Filled, filled-none, filled-more}
+use Rattle.finder.specs.Steps.{rowOf, byRow, mustStepBack}
 use Rattle.finder.proofs.flags_of.Statement.{statement}
 use Rattle.finder.proofs.flags_of.Tie as tie
 
 abbrev Inv-loop : tie.InvT-loop
 Inv-loop sent received at n flags₀ j₀ flags j =
-    (j ≤ n) × ((length flags ≡ 16) × ((i : ℕ) → i < j → flagged flags i ≡ mustStepBack (byRow n sent received) (rowOf at) i))
+    Filled false flags₀ n (mustStepBack (byRow n sent received) (rowOf at)) flags j
 
 abbrev μ-loop : tie.MeasureT-loop
 μ-loop sent received at n flags₀ j₀ flags j = n - j
 
 loop-holds : tie.Need-loop-holds Inv-loop μ-loop
-loop-holds c = (omega arith, (refl, λ i h. absurd (omega arith)))
+loop-holds c = filled-none (omega arith)
 
 must-step-back-requires : tie.Need-must-step-back-requires Inv-loop μ-loop
 must-step-back-requires c κs = (c .before .before .before .before .pre, c .loop-test .taken)
@@ -33,20 +31,10 @@ loop-less : tie.Need-loop-less Inv-loop μ-loop
 loop-less c = search needs
 
 loop-again : tie.Need-loop-again Inv-loop μ-loop
-loop-again c =
-    let at-loop = c .before .before in
-    let a = at-loop .before .before .before .args in
-    let P : ℕ → Bool → Type 0 = λ i b. b ≡ mustStepBack (byRow (a .n) (a .sent .now) (a .received .now)) (rowOf (a .at .now)) i in (
-      omega arith,
-      (
-        simp length-set (at-loop .loop .inv .1 .0),
-        fill-more P false (at-loop .loop .flags) (at-loop .loop .j) (c .must-step-back .result) (omega (arith, at-loop .loop .inv .1 .0)) (at-loop .loop .inv .1 .1)
-            (c .must-step-back .ensures),
-      ),
-    )
+loop-again c = filled-more (c .before .before .loop .inv) (omega arith) (c .must-step-back .ensures)
 
 returns : tie.Need-returns Inv-loop μ-loop
-returns c = λ j i. c .before .loop .inv .1 .1 j (omega arith)
+returns c = λ j i. c .before .loop .inv .done j (omega arith)
 
 pub flags-of-spec : {M : Type 1} → statement M
 flags-of-spec =

@@ -1,17 +1,17 @@
 -- `must_step_back` meets its contract. The invariant: from the partners so far no more was received than they have sent.
-use Prim.Native.Nat.{ℕ, _+_, _-_, _*_, _≤_, _<_}
+use Prim.Native.Nat.{_+_, _-_, _*_, _≤_, _<_}
 use native.Mathlib.Omega.{arith}
 use borrow.Author.Needs.{needs}
 use lib.ListN.{getD}
+use Rattle.lists.proofs.Before.{Before, before-none, before-more, before-all}
 use Rattle.finder.specs.Steps.{rowOf, byRow}
-use Rattle.lists.proofs.Fills.{below-more}
 use Rattle.finder.proofs.Flags.{must-here, need-not}
 use Rattle.finder.proofs.must_step_back.Statement.{statement}
 use Rattle.finder.proofs.must_step_back.Tie as tie
 
 abbrev Inv-loop : tie.InvT-loop
 Inv-loop sent received at n j own p₀ p =
-    (p ≤ n) × ((q : ℕ) → q < p → getD received (rowOf at j * 16 + q) 0 ≤ getD sent (rowOf at q * 16 + j) 0)
+    Before n (λ q. getD received (rowOf at j * 16 + q) 0 ≤ getD sent (rowOf at q * 16 + j) 0) p
 
 abbrev μ-loop : tie.MeasureT-loop
 μ-loop sent received at n j own p₀ p = n - p
@@ -33,7 +33,7 @@ mul-own-2 : tie.Need-mul-own-2 Inv-loop μ-loop
 mul-own-2 c = omega (arith, own-row (c .before))
 
 loop-holds : tie.Need-loop-holds Inv-loop μ-loop
-loop-holds c = (omega arith, λ q h. absurd (omega arith))
+loop-holds c = before-none
 
 mul-other : tie.Need-mul-other Inv-loop μ-loop
 mul-other c = omega arith
@@ -75,16 +75,12 @@ loop-less : tie.Need-loop-less Inv-loop μ-loop
 loop-less c = search needs
 
 loop-again : tie.Need-loop-again Inv-loop μ-loop
-loop-again c =
-    let at-loop = c .before .before .before .before .before in
-    let a = at-loop .before .before .args in
-    let P : ℕ → Type 0 = λ q. getD (a .received .now) (rowOf (a .at .now) (a .j) * 16 + q) 0 ≤ getD (a .sent .now) (rowOf (a .at .now) q * 16 + a .j) 0 in
-    (omega arith, below-more P (at-loop .loop .p) (at-loop .loop .inv .1) (c .if1 .left))
+loop-again c = before-more (c .before .before .before .before .before .loop .inv) (omega arith) (c .if1 .left)
 
 returns-2 : tie.Need-returns-2 Inv-loop μ-loop
 returns-2 c =
     let a = c .before .before .before .args in
-    need-not (byRow (a .n) (a .sent .now) (a .received .now)) (rowOf (a .at .now)) (a .j) (λ p i. c .before .loop .inv .1 p (omega arith))
+    need-not (byRow (a .n) (a .sent .now) (a .received .now)) (rowOf (a .at .now)) (a .j) (before-all (c .before .loop .inv) (omega arith))
 
 pub must-step-back-spec : {M : Type 1} → statement M
 must-step-back-spec =

@@ -1,24 +1,23 @@
 -- `newest_set` meets its contract. The invariant: the numbers so far are the counts.
-use mathlib.Core.Path.{_≡_, refl}
-use Prim.Native.Nat.{ℕ, _-_, _≤_, _<_}
+use mathlib.Core.Path.{refl}
+use Prim.Native.Nat.{_-_}
 use native.Mathlib.Omega.{arith}
 use borrow.Author.Needs.{needs}
-use lib.ListN.{length, getD, length-set}
-use Rattle.book.specs.declared.Checkpoint.{Checkpoint}
-use Rattle.consistency.specs.Set.{chosen}
-use Rattle.lists.proofs.Fills.{fill-more}
-use Rattle.finder.proofs.Sixteen.{checkpoints-are}
+use lib.ListN.{getD}
+use Rattle.lists.proofs.Filling.{Filled, filled-none, filled-more, filled-all}
+use Rattle.book.proofs.Values.{checkpoint}
+use Rattle.finder.specs.Line.{checkpoints}
 use Rattle.finder.proofs.newest_set.Statement.{statement}
 use Rattle.finder.proofs.newest_set.Tie as tie
 
 abbrev Inv-loop : tie.InvT-loop
-Inv-loop counts set₀ j₀ set j = (j ≤ 16) × ((length set ≡ 16) × ((i : ℕ) → i < j → chosen set i ≡ getD counts i 0))
+Inv-loop counts set₀ j₀ set j = Filled (checkpoint 0) set₀ 16 (λ i. checkpoint (getD counts i 0)) set j
 
 abbrev μ-loop : tie.MeasureT-loop
 μ-loop counts set₀ j₀ set j = 16 - j
 
 loop-holds : tie.Need-loop-holds Inv-loop μ-loop
-loop-holds c = (omega arith, (refl, λ i h. absurd (omega arith)))
+loop-holds c = filled-none (omega arith)
 
 mul-t7 : tie.Need-mul-t7 Inv-loop μ-loop
 mul-t7 c = omega arith
@@ -39,21 +38,11 @@ loop-less : tie.Need-loop-less Inv-loop μ-loop
 loop-less c = search needs
 
 loop-again : tie.Need-loop-again Inv-loop μ-loop
-loop-again c =
-    let at-loop = c .before .loop in
-    let counts = c .before .before .before .args .shape .counts in
-    let P : ℕ → Checkpoint → Type 0 = λ i r. r .0 ≡ getD counts i 0 in (
-      omega arith,
-      (
-        simp length-set (at-loop .inv .1 .0),
-        fill-more P (record { 0 = 0 }) (at-loop .set) (at-loop .j) (record { 0 = getD counts (at-loop .j) 0 }) (omega arith) (at-loop .inv .1 .1) refl,
-      ),
-    )
+loop-again c = filled-more (c .before .loop .inv) (omega arith) refl
 
 returns : tie.Need-returns Inv-loop μ-loop
-returns c =
-    let counts = c .before .before .before .args .shape .counts in
-    checkpoints-are (c .before .loop .set) (λ j. getD counts j 0) (c .before .loop .inv .1 .0) (λ j i. c .before .loop .inv .1 .1 j (omega arith))
+unfolding checkpoints
+returns c = filled-all (c .before .loop .inv) refl (omega arith)
 
 pub newest-set-spec : {M : Type 1} → statement M
 newest-set-spec =

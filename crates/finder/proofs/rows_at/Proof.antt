@@ -1,19 +1,18 @@
 -- `rows_at` meets its contract. The invariant: the rows so far are those of the checkpoints.
 use mathlib.Core.Path.{_≡_, refl}
-use Prim.Native.Nat.{ℕ, _+_, _-_, _≤_, _<_}
+use Prim.Native.Nat.{_+_, _-_}
 use native.Mathlib.Omega.{arith}
 use borrow.Author.Needs.{needs}
-use lib.ListN.{length, getD, length-set}
+use lib.ListN.{length, getD}
 use Rattle.consistency.specs.Set.{chosen}
-use Rattle.lists.proofs.Fills.{fill-more}
-use Rattle.finder.specs.Steps.{rowOf}
+use Rattle.lists.proofs.Filling.{Filled, filled-none, filled-more}
 use Rattle.finder.proofs.Rows.{row-small, first-at}
 use Rattle.finder.proofs.rows_at.Statement.{statement}
 use Rattle.finder.proofs.rows_at.Tie as tie
 
 abbrev Inv-loop : tie.InvT-loop
 Inv-loop set n first at₀ j₀ at j =
-    (j ≤ n) × ((length at ≡ 16) × ((i : ℕ) → i < j → rowOf at i ≡ getD first i 0 + (chosen set i - 1)))
+    Filled 0 at₀ n (λ i. getD first i 0 + (chosen set i - 1)) at j
 
 abbrev μ-loop : tie.MeasureT-loop
 μ-loop set n first at₀ j₀ at j = n - j
@@ -22,7 +21,7 @@ counts-long : (c : tie.Start Inv-loop μ-loop) → length (c .args .rows .shape 
 counts-long c = search needs
 
 loop-holds : tie.Need-loop-holds Inv-loop μ-loop
-loop-holds c = (omega arith, (refl, λ i h. absurd (omega arith)))
+loop-holds c = filled-none (omega arith)
 
 mul-r : tie.Need-mul-r Inv-loop μ-loop
 mul-r c = omega arith
@@ -61,22 +60,12 @@ loop-less : tie.Need-loop-less Inv-loop μ-loop
 loop-less c = search needs
 
 loop-again : tie.Need-loop-again Inv-loop μ-loop
-loop-again c =
-    let at-loop = c .before .before .before in
-    let a = at-loop .before .before .before .args in
-    let j = at-loop .loop .j in
-    let P : ℕ → ℕ → Type 0 = λ i row. row ≡ getD (a .rows .first) i 0 + (chosen (a .t2) i - 1) in (
-      omega arith,
-      (
-        simp length-set (at-loop .loop .inv .1 .0),
-        fill-more P 0 (at-loop .loop .at) j (getD (a .rows .first) j 0 + (chosen (a .t2) j - 1)) (omega (arith, at-loop .loop .inv .1 .0)) (at-loop .loop .inv .1 .1) refl,
-      ),
-    )
+loop-again c = filled-more (c .before .before .before .loop .inv) (omega arith) refl
 
 returns : tie.Need-returns Inv-loop μ-loop
 returns c =
     let start = c .before .before .before .before in
-    λ j i. omega (arith, c .before .loop .inv .1 .1 j (omega arith), first-at (start .pre) j i (counts-long start), start .pre .some j i)
+    λ j i. omega (arith, c .before .loop .inv .done j (omega arith), first-at (start .pre) j i (counts-long start), start .pre .some j i)
 
 pub rows-at-spec : {M : Type 1} → statement M
 rows-at-spec =

@@ -1,13 +1,12 @@
 -- `set_at` meets its contract. The invariant: the checkpoints so far are those that lie in the rows, the others zero.
 use mathlib.Core.Path.{_≡_, refl, ap, _∙_}
-use Prim.Native.Nat.{ℕ, _+_, _-_, _≤_, _<_}
+use Prim.Native.Nat.{ℕ, _+_, _-_}
 use native.Mathlib.Omega.{arith}
 use borrow.Author.Needs.{needs}
-use lib.ListN.{length, getD, length-set}
+use lib.ListN.{length, getD}
 use Rattle.book.specs.declared.Checkpoint.{Checkpoint}
-use Rattle.consistency.specs.Set.{chosen}
-use Rattle.lists.proofs.Fills.{fill-more, fill-rest}
-use Rattle.finder.specs.Line.{noLine}
+use Rattle.lists.proofs.Filling.{Filled, filled-none, filled-more}
+use Rattle.book.proofs.Values.{checkpoint}
 use Rattle.finder.specs.Steps.{rowOf}
 use Rattle.finder.proofs.Rows.{row-small, first-at}
 use Rattle.finder.proofs.Sixteen.{chosen-none}
@@ -16,10 +15,7 @@ use Rattle.finder.proofs.set_at.Tie as tie
 
 abbrev Inv-loop : tie.InvT-loop
 Inv-loop at n first set₀ j₀ set j =
-    (j ≤ n)
-    × ((length set ≡ 16)
-    × (((i : ℕ) → i < j → chosen set i ≡ rowOf at i - getD first i 0 + 1)
-    × ((i : ℕ) → j ≤ i → getD set i (record { 0 = 0 }) ≡ getD set₀ i (record { 0 = 0 }))))
+    Filled (checkpoint 0) set₀ n (λ i. checkpoint (rowOf at i - getD first i 0 + 1)) set j
 
 abbrev μ-loop : tie.MeasureT-loop
 μ-loop at n first set₀ j₀ set j = n - j
@@ -28,7 +24,7 @@ counts-long : (c : tie.Start Inv-loop μ-loop) → length (c .args .rows .shape 
 counts-long c = search needs
 
 loop-holds : tie.Need-loop-holds Inv-loop μ-loop
-loop-holds c = (omega arith, (refl, (λ i h. absurd (omega arith), λ i h. refl)))
+loop-holds c = filled-none (omega arith)
 
 mul-t10 : tie.Need-mul-t10 Inv-loop μ-loop
 mul-t10 c = omega arith
@@ -69,28 +65,15 @@ loop-less : tie.Need-loop-less Inv-loop μ-loop
 loop-less c = search needs
 
 loop-again : tie.Need-loop-again Inv-loop μ-loop
-loop-again c =
-    let at-loop = c .before .before in
-    let a = at-loop .before .before .before .args in
-    let j = at-loop .loop .j in
-    let r : Checkpoint = record { 0 = rowOf (a .at .now) j - getD (a .rows .first) j 0 + 1 } in
-    let P : ℕ → Checkpoint → Type 0 = λ i r. r .0 ≡ rowOf (a .at .now) i - getD (a .rows .first) i 0 + 1 in (
-      omega arith,
-      (
-        simp length-set (at-loop .loop .inv .1 .0),
-        (
-          fill-more P (record { 0 = 0 }) (at-loop .loop .set) j r (omega (arith, at-loop .loop .inv .1 .0)) (at-loop .loop .inv .1 .1 .0) refl,
-          fill-rest (record { 0 = 0 }) (at-loop .loop .set) noLine j r (at-loop .loop .inv .1 .1 .1),
-        ),
-      ),
-    )
+loop-again c = filled-more (c .before .before .loop .inv) (omega arith) refl
 
 returns : tie.Need-returns Inv-loop μ-loop
 returns c =
     let start = c .before .before .before .before in
-    let inv = c .before .loop .inv in (
-      λ j i. omega (arith, inv .1 .1 .0 j (omega arith), first-at (start .pre) j i (counts-long start), start .pre .some j i),
-      λ j i. ap (λ (r : Checkpoint). r .0) (inv .1 .1 .1 j (omega arith)) ∙ chosen-none j,
+    let inv = c .before .loop .inv in
+    let number : Checkpoint → ℕ = λ r. r .0 in (
+      λ j i. omega (arith, ap number (inv .done j (omega arith)), first-at (start .pre) j i (counts-long start), start .pre .some j i),
+      λ j i. ap number (inv .rest j (omega arith)) ∙ chosen-none j,
     )
 
 pub set-at-spec : {M : Type 1} → statement M

@@ -1,6 +1,7 @@
 -- `restart` meets its contract.
 use borrow.Author.Needs.{needs}
-use Rattle.matrix.proofs.Sparse.{one-value}
+use Rattle.book.specs.Bounds.{mark}
+use Rattle.matrix.proofs.Rows.{one-value}
 use Rattle.initiator.specs.Begin.{beginRestart}
 use Rattle.initiator.proofs.begin_restart.Statement.{statement}
 use Rattle.initiator.proofs.begin_restart.Tie as tie
@@ -17,7 +18,7 @@ without-wait-requires c κs = search needs
 returns : tie.Need-returns
 unfolding beginRestart
 returns c =
-    rw (c .without-wait .ensures, c .before .before .not-known-matrix .ensures, c .before .participants .ensures, one-value 4294967295)
+    rw (c .without-wait .ensures, c .before .before .not-known-matrix .ensures, c .before .participants .ensures, one-value mark)
 
 pub begin-restart-spec : {M : Type 1} → statement M
 begin-restart-spec =

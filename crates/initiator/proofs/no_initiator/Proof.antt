@@ -3,7 +3,7 @@ use mathlib.Core.Path.{ap, _∙_}
 use mathlib.Core.List.{List}
 use borrow.Author.Needs.{needs}
 use Rattle.book.specs.declared.Count.{Count}
-use Rattle.matrix.proofs.Sparse.{one-value}
+use Rattle.matrix.proofs.Rows.{one-value}
 use Rattle.initiator.specs.Begin.{withoutWait}
 use Rattle.initiator.specs.Calls.{noInitiator}
 use Rattle.initiator.proofs.no_initiator.Statement.{statement}

@@ -1,5 +1,6 @@
 -- `search_text` meets its contract.
 use borrow.Author.Needs.{needs}
+use Rattle.book.specs.Lent.{lent}
 use Rattle.line_text.proofs.Lines.{searched-text}
 use Rattle.line_text.proofs.search_text.Statement.{statement}
 use Rattle.line_text.proofs.search_text.Tie as tie
@@ -15,7 +16,7 @@ returns c =
     let a = c .before .before .before .before .before .args in
     let found = c .before .before .search in
     let told = found .ensures in
-    searched-text (a .shape) (a .sent .now) (a .received .now) (found .result .set) (found .result .newer) (found .result .rounds)
+    searched-text (lent (a .shape) (a .sent .now) (a .received .now)) (found .result .set) (found .result .newer) (found .result .rounds)
     (found .result .messages)
     (c .found-text .result)
     (told .1 .0)

@@ -1,23 +1,23 @@
 -- `for_each` meets its contract. The invariant: the entries so far are the row's, over and over.
 use mathlib.Core.Path.{refl}
-use Prim.Native.Nat.{ℕ, _-_, _%_}
+use Prim.Native.Nat.{_-_, _%_}
 use native.Mathlib.Omega.{arith}
 use borrow.Author.Needs.{needs}
-use lib.ListN.{getD}
-use Rattle.book.specs.declared.Count.{Count}
+use Rattle.lists.proofs.Filling.{Filled, filled-none, filled-more, filled-all}
+use Rattle.book.proofs.Values.{tally}
 use Rattle.consistency.specs.Known.{counters}
-use Rattle.matrix.proofs.Rows.{Filled, filled-none, filled-more, filled-matrix}
+use Rattle.matrix.specs.Matrix.{asMatrix}
 use Rattle.machine.proofs.for_each.Statement.{statement}
 use Rattle.machine.proofs.for_each.Tie as tie
 
 abbrev Inv-loop : tie.InvT-loop
-Inv-loop news all₀ i₀ all i = Filled 256 (λ k. counters news (k % 16)) all i
+Inv-loop news all₀ i₀ all i = Filled (tally 0) all₀ 256 (λ k. tally (counters news (k % 16))) all i
 
 abbrev μ-loop : tie.MeasureT-loop
 μ-loop news all₀ i₀ all i = 256 - i
 
 loop-holds : tie.Need-loop-holds Inv-loop μ-loop
-loop-holds c = filled-none 256 (λ k. counters (c .args .t1) (k % 16)) _ refl
+loop-holds c = filled-none (omega arith)
 
 mul-all : tie.Need-mul-all Inv-loop μ-loop
 mul-all c = omega arith
@@ -38,17 +38,11 @@ loop-less : tie.Need-loop-less Inv-loop μ-loop
 loop-less c = search needs
 
 loop-again : tie.Need-loop-again Inv-loop μ-loop
-loop-again c =
-    let news = c .before .before .before .args .t1 in
-    let at-loop = c .before .before .loop in
-    let f : ℕ → ℕ = λ k. counters news (k % 16) in
-    let v : Count = getD news (at-loop .i % 16) (record { 0 = 0 }) in
-    filled-more 256 f (at-loop .all) (at-loop .i) v (at-loop .inv) (c .before .loop-test .taken) refl
+loop-again c = filled-more (c .before .before .loop .inv) (c .before .loop-test .taken) refl
 
 returns : tie.Need-returns Inv-loop μ-loop
-returns c =
-    let news = c .before .before .args .t1 in
-    filled-matrix (λ p k. counters news k) (c .before .loop .all) (c .before .loop .i) (c .before .loop .inv) (c .loop-test .left)
+unfolding asMatrix
+returns c = filled-all (c .before .loop .inv) refl (c .loop-test .left)
 
 pub for-each-spec : {M : Type 1} → statement M
 for-each-spec =

@@ -4,15 +4,18 @@ use Prim.Native.Nat.{ℕ, _-_, _<_}
 use native.Mathlib.Omega.{arith}
 use borrow.Author.Needs.{needs}
 use lib.ListN.{length, getD}
+use Rattle.lists.proofs.Filling.{Filled, filled-none, filled-more, filled-all}
 use Rattle.book.specs.View.{counterFrom}
+use Rattle.book.proofs.Values.{tally, tally-of}
 use Rattle.book.proofs.Starts.{placed-first, placed-row}
 use Rattle.consistency.proofs.Permits.{from-one}
-use Rattle.matrix.proofs.Rows.{Filled, filled-none, filled-more, filled-row}
+use Rattle.matrix.specs.Matrix.{asRow}
 use Rattle.machine.proofs.sent_row.Statement.{statement}
 use Rattle.machine.proofs.sent_row.Tie as tie
 
 abbrev Inv-loop : tie.InvT-loop
-Inv-loop sent r place first entries₀ p₀ entries p = Filled 16 (λ q. counterFrom sent first (r .0) q) entries p
+Inv-loop sent r place first entries₀ p₀ entries p =
+    Filled (tally 0) entries₀ 16 (λ q. tally (counterFrom sent first (r .0) q)) entries p
 
 abbrev μ-loop : tie.MeasureT-loop
 μ-loop sent r place first entries₀ p₀ entries p = 16 - p
@@ -27,9 +30,7 @@ array-read-first : tie.Need-array-read-first Inv-loop μ-loop
 array-read-first c = omega (arith, c .before .before .before .pre .0 .0 .most)
 
 loop-holds : tie.Need-loop-holds Inv-loop μ-loop
-loop-holds c =
-    let a = c .before .before .before .args in
-    filled-none 16 (λ q. counterFrom (a .sent .now) (getD (a .rows .first) (a .j .0 - 1) 0) (a .r .0) q) _ refl
+loop-holds c = filled-none (omega arith)
 
 -- where the first row is taken out
 there : (c : tie.After-struct-known Inv-loop μ-loop) → let a = c .before .before .before .args in a .j .0 - 1 < length (a .rows .shape .counts)
@@ -65,16 +66,15 @@ loop-again c =
     let a = c .before .before .before .before .before .before .args in
     let at-loop = c .before .before .loop in
     let f : ℕ → ℕ = λ q. counterFrom (a .sent .now) (getD (a .rows .first) (a .j .0 - 1) 0) (a .r .0) q in
-    filled-more 16 f (at-loop .entries) (at-loop .p) (c .counter .result) (at-loop .inv) (c .before .loop-test .taken)
-    (c .counter .ensures ∙ ap f (from-one (at-loop .p)))
+    filled-more (at-loop .inv) (c .before .loop-test .taken) (tally-of (c .counter .ensures ∙ ap f (from-one (at-loop .p))))
 
 returns : tie.Need-returns Inv-loop μ-loop
+unfolding asRow
 returns c =
     let at = c .before .before .before .before .before in
-    rw (← placed-first (at .pre .0 .0 .placed) (at .args .j .0 - 1) (there (c .before .before)))
-    (filled-row (λ q. counterFrom (at .args .sent .now) _ (at .args .r .0) q) (c .before .loop .entries) (c .before .loop .p)
-    (c .before .loop .inv)
-    (c .loop-test .left))
+    filled-all (c .before .loop .inv) refl (c .loop-test .left)
+    ∙ ap (λ (first : ℕ). asRow (λ q. counterFrom (at .args .sent .now) first (at .args .r .0) q))
+    (placed-first (at .pre .0 .0 .placed) (at .args .j .0 - 1) (there (c .before .before)))
 
 pub sent-row-spec : {M : Type 1} → statement M
 sent-row-spec =

@@ -1,8 +1,9 @@
--- `head_size` meets its contract: each of the three numbers takes at most ten bytes.
+-- `head_size` meets its contract: a bound for each of the three numbers.
 use Prim.Native.Nat.{_≤_}
 use native.Mathlib.Omega.{arith}
 use borrow.Author.Needs.{needs}
 use Rattle.varint.proofs.WriteTurns.{size-most}
+use Rattle.mail.specs.Sizes.{numberMost}
 use Rattle.mail.proofs.Turns.{three-long}
 use Rattle.mail.proofs.Messages.{head-parts}
 use Rattle.mail.proofs.head_size.Statement.{statement}
@@ -14,13 +15,13 @@ size-of-requires c κs = search needs
 size-of-requires-2 : tie.Need-size-of-requires-2
 size-of-requires-2 c κs = search needs
 
-first : (c : tie.After-size-of2) → c .before .size-of .result ≤ 10
+first : (c : tie.After-size-of2) → c .before .size-of .result ≤ numberMost
 first c = rw (c .before .size-of .ensures) (size-most (c .before .before .before .args .head .kind) (omega arith))
 
-second : (c : tie.After-size-of2) → c .size-of2 .result ≤ 10
+second : (c : tie.After-size-of2) → c .size-of2 .result ≤ numberMost
 second c = rw (c .size-of2 .ensures) (size-most (c .before .before .before .args .head .purpose) (omega arith))
 
-third : (c : tie.After-size-of3) → c .size-of3 .result ≤ 10
+third : (c : tie.After-size-of3) → c .size-of3 .result ≤ numberMost
 third c = rw (c .size-of3 .ensures) (size-most (c .before .before .before .before .args .head .sender .0) (omega arith))
 
 add-result : tie.Need-add-result

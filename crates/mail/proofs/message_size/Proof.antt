@@ -3,6 +3,7 @@ use Prim.Native.Nat.{_≤_}
 use native.Mathlib.Omega.{arith}
 use borrow.Author.Needs.{needs}
 use Rattle.varint.proofs.WriteTurns.{size-most}
+use Rattle.mail.specs.Sizes.{numberMost}
 use Rattle.mail.proofs.Turns.{three-long}
 use Rattle.mail.proofs.Messages.{message-parts}
 use Rattle.mail.proofs.message_size.Statement.{statement}
@@ -17,7 +18,7 @@ pair-count-requires c κs = search needs
 size-of-requires : tie.Need-size-of-requires
 size-of-requires c κs = search needs
 
-small : (c : tie.After-size-of) → c .size-of .result ≤ 10
+small : (c : tie.After-size-of) → c .size-of .result ≤ numberMost
 small c = rw (c .size-of .ensures) (size-most (c .before .pair-count .result) (omega arith))
 
 add-result : tie.Need-add-result

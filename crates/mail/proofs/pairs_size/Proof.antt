@@ -7,19 +7,20 @@ use native.Mathlib.Omega.{arith}
 use borrow.Author.Needs.{needs}
 use lib.ListN.{length}
 use Rattle.consistency.specs.Known.{counters}
+use Rattle.mail.specs.Sizes.{pairMost}
 use Rattle.mail.proofs.Turns.{Measured, measured-none, measured-more, measured-all}
 use Rattle.mail.proofs.Pairs.{pairBytes, pair-parts, pair-size, no-pair, pair-few}
 use Rattle.mail.proofs.pairs_size.Statement.{statement}
 use Rattle.mail.proofs.pairs_size.Tie as tie
 
 abbrev Inv-loop : tie.InvT-loop
-Inv-loop news size₀ p₀ size p = Measured 15 (pairBytes (counters news)) p size
+Inv-loop news size₀ p₀ size p = Measured pairMost (pairBytes (counters news)) p size
 
 abbrev μ-loop : tie.MeasureT-loop
 μ-loop news size₀ p₀ size p = 16 - p
 
 loop-holds : tie.Need-loop-holds Inv-loop μ-loop
-loop-holds c = measured-none (pair-parts (counters (c .args .t1))) 15
+loop-holds c = measured-none (pair-parts (counters (c .args .t1))) pairMost
 
 mul-counter : tie.Need-mul-counter Inv-loop μ-loop
 mul-counter c = omega arith
@@ -39,7 +40,7 @@ wide-requires c κs = search needs
 size-of-requires-2 : tie.Need-size-of-requires-2 Inv-loop μ-loop
 size-of-requires-2 c κs = search needs
 
-few : (c : tie.After-size-of2 Inv-loop μ-loop) → c .before .before .size-of .result + c .size-of2 .result ≤ 15
+few : (c : tie.After-size-of2 Inv-loop μ-loop) → c .before .before .size-of .result + c .size-of2 .result ≤ pairMost
 few c =
     pair-few (omega arith) (omega (arith, c .before .wide .ensures)) (c .before .before .size-of .ensures) (c .size-of2 .ensures)
 
@@ -61,18 +62,18 @@ loop-again c =
     let l = c .before .before .before .before .loop in
     let there = c .before .before .before .loop-test .taken in
     let parts = pair-parts news in
-    let P : ℕ → Type 0 = Measured 15 (pairBytes news) (l .p + 1) in
+    let P : ℕ → Type 0 = Measured pairMost (pairBytes news) (l .p + 1) in
     ⊎-elim
     (λ t. subst P (sym (t .4))
-    (measured-more parts 15 (l .inv) there (pair-size news (l .p) (t .0 .taken) (t .2 .ensures) (t .1 .ensures) (t .3 .ensures))
+    (measured-more parts pairMost (l .inv) there (pair-size news (l .p) (t .0 .taken) (t .2 .ensures) (t .1 .ensures) (t .3 .ensures))
     (few (record { before = record { before = record { before = record { before = c .before; if1 = t .0 }; size-of = t .1 }; wide = t .2 }; size-of2 = t .3 }))))
     (λ t. subst P (add-zero (l .size) ∙ sym (t .1))
-    (measured-more parts 15 (l .inv) there (sym (ap length (no-pair news (l .p) (t .0 .left)))) (omega arith)))
+    (measured-more parts pairMost (l .inv) there (sym (ap length (no-pair news (l .p) (t .0 .left)))) (omega arith)))
     (c .if1 .came)
 
 returns : tie.Need-returns Inv-loop μ-loop
 returns c =
-    measured-all (pair-parts (counters (c .before .before .args .t1))) 15 (c .before .loop .inv) (c .loop-test .left)
+    measured-all (pair-parts (counters (c .before .before .args .t1))) pairMost (c .before .loop .inv) (c .loop-test .left)
 
 pub pairs-size-spec : {M : Type 1} → statement M
 pairs-size-spec =

@@ -4,15 +4,16 @@ use Prim.Native.Nat.{ℕ, _+_, _-_, _≤_}
 use native.Mathlib.Omega.{arith}
 use borrow.Author.Needs.{needs}
 use lib.ListN.{length}
+use Rattle.lists.proofs.Filling.{Filled, filled-none, filled-more, filled-all}
 use Rattle.mail.specs.Outgoing.{bytesTo, mailTo}
 use Rattle.mail.proofs.Turns.{Put, put-none, put-room, put-more, put-all, part-room, part-stored}
-use Rattle.mail.proofs.Messages.{mail-parts, Noted, noted-none, noted-more, noted-all}
+use Rattle.mail.proofs.Messages.{mail-parts}
 use Rattle.mail.proofs.put_mail.Statement.{statement}
 use Rattle.mail.proofs.put_mail.Tie as tie
 
 abbrev Inv-loop : tie.InvT-loop
 Inv-loop outgoing out₀ lengths₀ at₀ p₀ out lengths at p =
-    Put (λ (k : ℕ). mailTo k outgoing) out₀ 0 p out at × Noted outgoing lengths p
+    Put (λ (k : ℕ). mailTo k outgoing) out₀ 0 p out at × Filled 0 lengths₀ 16 (λ k. length (bytesTo outgoing k)) lengths p
 
 abbrev μ-loop : tie.MeasureT-loop
 μ-loop outgoing out₀ lengths₀ at₀ p₀ out lengths at p = 16 - p
@@ -20,7 +21,7 @@ abbrev μ-loop : tie.MeasureT-loop
 loop-holds : tie.Need-loop-holds Inv-loop μ-loop
 loop-holds c =
     let s = c .before in
-    (put-none (mail-parts (s .args .outgoing)) (s .args .out .now) 0, noted-none (s .args .outgoing) _ refl)
+    (put-none (mail-parts (s .args .outgoing)) (s .args .out .now) 0, filled-none (omega arith))
 
 -- there is room for the next message
 room : (c : tie.In-loop Inv-loop μ-loop)
@@ -70,7 +71,7 @@ loop-again c =
     let size = put .put-to .ensures .0 in
     let stored = part-stored bytes (l .out) (l .at) (room i) (put .put-to .ensures .1) in (
       put-more (mail-parts (s .args .outgoing)) (s .args .out .now) 0 (l .inv .0) (i .loop-test .taken) (ap (λ (n : ℕ). l .at + n) size, stored),
-      noted-more (l .inv .1) (i .loop-test .taken) size,
+      filled-more (l .inv .1) (i .loop-test .taken) size,
     )
 
 same-length : tie.Need-same-length Inv-loop μ-loop
@@ -80,7 +81,7 @@ returns : tie.Need-returns Inv-loop μ-loop
 returns c =
     let s = c .before .before .before in
     let l = c .before .loop in
-    (noted-all (l .inv .1) (c .loop-test .left), put-all (mail-parts (s .args .outgoing)) (s .args .out .now) 0 (l .inv .0) (c .loop-test .left) .1)
+    (filled-all (l .inv .1) refl (c .loop-test .left), put-all (mail-parts (s .args .outgoing)) (s .args .out .now) 0 (l .inv .0) (c .loop-test .left) .1)
 
 pub put-mail-spec : {M : Type 1} → statement M
 put-mail-spec =

@@ -1,17 +1,17 @@
 -- `column` meets its contract. The invariant: the entries so far are the column's.
 use mathlib.Core.Path.{refl}
-use Prim.Native.Nat.{ℕ, _+_, _-_, _*_}
+use Prim.Native.Nat.{_+_, _-_, _*_}
 use native.Mathlib.Omega.{arith}
 use borrow.Author.Needs.{needs}
-use lib.ListN.{getD}
-use Rattle.book.specs.declared.Count.{Count}
 use Rattle.consistency.specs.Known.{counters}
-use Rattle.matrix.proofs.Rows.{Filled, filled-none, filled-more, filled-row}
+use Rattle.matrix.specs.Matrix.{asRow}
+use Rattle.lists.proofs.Filling.{Filled, filled-none, filled-more, filled-all}
+use Rattle.book.proofs.Values.{tally}
 use Rattle.matrix.proofs.column.Statement.{statement}
 use Rattle.matrix.proofs.column.Tie as tie
 
 abbrev Inv-loop : tie.InvT-loop
-Inv-loop matrix entries₀ across j₀ entries j = Filled 16 (λ k. counters matrix (k * 16 + across)) entries j
+Inv-loop matrix entries₀ across j₀ entries j = Filled (tally 0) entries₀ 16 (λ k. tally (counters matrix (k * 16 + across))) entries j
 
 abbrev μ-loop : tie.MeasureT-loop
 μ-loop matrix entries₀ across j₀ entries j = 16 - j
@@ -20,7 +20,7 @@ sub-across : tie.Need-sub-across Inv-loop μ-loop
 sub-across c = omega arith
 
 loop-holds : tie.Need-loop-holds Inv-loop μ-loop
-loop-holds c = filled-none 16 (λ k. counters (c .before .args .t1) (k * 16 + (c .before .args .p .0 - 1))) _ refl
+loop-holds c = filled-none (omega arith)
 
 mul-entries : tie.Need-mul-entries Inv-loop μ-loop
 mul-entries c = omega arith
@@ -47,17 +47,11 @@ loop-less : tie.Need-loop-less Inv-loop μ-loop
 loop-less c = search needs
 
 loop-again : tie.Need-loop-again Inv-loop μ-loop
-loop-again c =
-    let a = c .before .before .before .before .args in
-    let at-loop = c .before .before .loop in
-    let f : ℕ → ℕ = λ k. counters (a .t1) (k * 16 + (a .p .0 - 1)) in
-    let v : Count = getD (a .t1) (at-loop .j * 16 + (a .p .0 - 1)) (record { 0 = 0 }) in
-    filled-more 16 f (at-loop .entries) (at-loop .j) v (at-loop .inv) (c .before .loop-test .taken) refl
+loop-again c = filled-more (c .before .before .loop .inv) (c .before .loop-test .taken) refl
 
 returns : tie.Need-returns Inv-loop μ-loop
-returns c =
-    let a = c .before .before .before .args in
-    filled-row (λ k. counters (a .t1) (k * 16 + (a .p .0 - 1))) (c .before .loop .entries) (c .before .loop .j) (c .before .loop .inv) (c .loop-test .left)
+unfolding asRow
+returns c = filled-all (c .before .loop .inv) refl (c .loop-test .left)
 
 pub column-spec : {M : Type 1} → statement M
 column-spec =

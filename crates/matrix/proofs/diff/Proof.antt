@@ -4,19 +4,21 @@ use Prim.Native.Nat.{_-_}
 use native.Mathlib.Omega.{arith}
 use borrow.Author.Needs.{needs}
 use Rattle.consistency.specs.Known.{counters}
+use Rattle.matrix.specs.Matrix.{asRow}
 use Rattle.matrix.specs.Entries.{differing}
-use Rattle.matrix.proofs.Rows.{Filled, filled-none, filled-more, filled-row}
+use Rattle.lists.proofs.Filling.{Filled, filled-none, filled-more, filled-all}
+use Rattle.book.proofs.Values.{tally, tally-of}
 use Rattle.matrix.proofs.diff.Statement.{statement}
 use Rattle.matrix.proofs.diff.Tie as tie
 
 abbrev Inv-loop : tie.InvT-loop
-Inv-loop now held news₀ p₀ news p = Filled 16 (λ k. differing (counters now k) (counters held k)) news p
+Inv-loop now held news₀ p₀ news p = Filled (tally 0) news₀ 16 (λ k. tally (differing (counters now k) (counters held k))) news p
 
 abbrev μ-loop : tie.MeasureT-loop
 μ-loop now held news₀ p₀ news p = 16 - p
 
 loop-holds : tie.Need-loop-holds Inv-loop μ-loop
-loop-holds c = filled-none 16 (λ k. differing (counters (c .args .t1) k) (counters (c .args .t2) k)) _ refl
+loop-holds c = filled-none (omega arith)
 
 mul-differing : tie.Need-mul-differing Inv-loop μ-loop
 mul-differing c = omega arith
@@ -46,15 +48,11 @@ loop-less : tie.Need-loop-less Inv-loop μ-loop
 loop-less c = search needs
 
 loop-again : tie.Need-loop-again Inv-loop μ-loop
-loop-again c =
-    let a = c .before .before .before .before .before .args in
-    let at-loop = c .before .before .before .before .loop in
-    filled-more 16 (λ k. differing (counters (a .t1) k) (counters (a .t2) k)) (at-loop .news) (at-loop .p) (c .differing .result) (at-loop .inv) (c .before .before .before .loop-test .taken) (c .differing .ensures)
+loop-again c = filled-more (c .before .before .before .before .loop .inv) (c .before .before .before .loop-test .taken) (tally-of (c .differing .ensures))
 
 returns : tie.Need-returns Inv-loop μ-loop
-returns c =
-    let a = c .before .before .args in
-    filled-row (λ k. differing (counters (a .t1) k) (counters (a .t2) k)) (c .before .loop .news) (c .before .loop .p) (c .before .loop .inv) (c .loop-test .left)
+unfolding asRow
+returns c = filled-all (c .before .loop .inv) refl (c .loop-test .left)
 
 pub diff-spec : {M : Type 1} → statement M
 diff-spec =

@@ -3,19 +3,20 @@ use mathlib.Core.Path.{refl}
 use Prim.Native.Nat.{_-_, _/_, _%_}
 use native.Mathlib.Omega.{arith}
 use borrow.Author.Needs.{needs}
-use Rattle.matrix.specs.Matrix.{notKnownAt}
-use Rattle.matrix.proofs.Rows.{Filled, filled-none, filled-more, filled-matrix}
+use Rattle.matrix.specs.Matrix.{asMatrix, notKnownAt}
+use Rattle.lists.proofs.Filling.{Filled, filled-none, filled-more, filled-all}
+use Rattle.book.proofs.Values.{tally, tally-of}
 use Rattle.matrix.proofs.not_known_matrix.Statement.{statement}
 use Rattle.matrix.proofs.not_known_matrix.Tie as tie
 
 abbrev Inv-loop : tie.InvT-loop
-Inv-loop n entries₀ i₀ entries i = Filled 256 (λ k. notKnownAt n (k / 16) (k % 16)) entries i
+Inv-loop n entries₀ i₀ entries i = Filled (tally 0) entries₀ 256 (λ k. tally (notKnownAt n (k / 16) (k % 16))) entries i
 
 abbrev μ-loop : tie.MeasureT-loop
 μ-loop n entries₀ i₀ entries i = 256 - i
 
 loop-holds : tie.Need-loop-holds Inv-loop μ-loop
-loop-holds c = filled-none 256 (λ k. notKnownAt (c .args .n) (k / 16) (k % 16)) _ refl
+loop-holds c = filled-none (omega arith)
 
 not-known-at-requires : tie.Need-not-known-at-requires Inv-loop μ-loop
 not-known-at-requires c κs = search needs
@@ -33,14 +34,11 @@ loop-less : tie.Need-loop-less Inv-loop μ-loop
 loop-less c = search needs
 
 loop-again : tie.Need-loop-again Inv-loop μ-loop
-loop-again c =
-    let n = c .before .before .before .args .n in
-    let at-loop = c .before .before .loop in
-    filled-more 256 (λ k. notKnownAt n (k / 16) (k % 16)) (at-loop .entries) (at-loop .i) (c .not-known-at .result) (at-loop .inv) (c .before .loop-test .taken) (c .not-known-at .ensures)
+loop-again c = filled-more (c .before .before .loop .inv) (c .before .loop-test .taken) (tally-of (c .not-known-at .ensures))
 
 returns : tie.Need-returns Inv-loop μ-loop
-returns c =
-    filled-matrix (λ j p. notKnownAt (c .before .before .args .n) j p) (c .before .loop .entries) (c .before .loop .i) (c .before .loop .inv) (c .loop-test .left)
+unfolding asMatrix
+returns c = filled-all (c .before .loop .inv) refl (c .loop-test .left)
 
 pub not-known-matrix-spec : {M : Type 1} → statement M
 not-known-matrix-spec =

@@ -1,17 +1,17 @@
 -- `row` meets its contract. The invariant: the entries so far are the row's.
 use mathlib.Core.Path.{refl}
-use Prim.Native.Nat.{ℕ, _+_, _-_, _*_}
+use Prim.Native.Nat.{_+_, _-_}
 use native.Mathlib.Omega.{arith}
 use borrow.Author.Needs.{needs}
-use lib.ListN.{getD}
-use Rattle.book.specs.declared.Count.{Count}
 use Rattle.consistency.specs.Known.{counters}
-use Rattle.matrix.proofs.Rows.{Filled, filled-none, filled-more, filled-row}
+use Rattle.matrix.specs.Matrix.{asRow}
+use Rattle.lists.proofs.Filling.{Filled, filled-none, filled-more, filled-all}
+use Rattle.book.proofs.Values.{tally}
 use Rattle.matrix.proofs.row.Statement.{statement}
 use Rattle.matrix.proofs.row.Tie as tie
 
 abbrev Inv-loop : tie.InvT-loop
-Inv-loop matrix entries₀ first p₀ entries p = Filled 16 (λ k. counters matrix (first + k)) entries p
+Inv-loop matrix entries₀ first p₀ entries p = Filled (tally 0) entries₀ 16 (λ k. tally (counters matrix (first + k))) entries p
 
 abbrev μ-loop : tie.MeasureT-loop
 μ-loop matrix entries₀ first p₀ entries p = 16 - p
@@ -23,7 +23,7 @@ mul-first : tie.Need-mul-first Inv-loop μ-loop
 mul-first c = omega arith
 
 loop-holds : tie.Need-loop-holds Inv-loop μ-loop
-loop-holds c = filled-none 16 (λ k. counters (c .before .args .t1) ((c .before .args .j .0 - 1) * 16 + k)) _ refl
+loop-holds c = filled-none (omega arith)
 
 add-entries : tie.Need-add-entries Inv-loop μ-loop
 add-entries c = omega arith
@@ -47,17 +47,11 @@ loop-less : tie.Need-loop-less Inv-loop μ-loop
 loop-less c = search needs
 
 loop-again : tie.Need-loop-again Inv-loop μ-loop
-loop-again c =
-    let a = c .before .before .before .before .args in
-    let at-loop = c .before .before .loop in
-    let f : ℕ → ℕ = λ k. counters (a .t1) ((a .j .0 - 1) * 16 + k) in
-    let v : Count = getD (a .t1) ((a .j .0 - 1) * 16 + at-loop .p) (record { 0 = 0 }) in
-    filled-more 16 f (at-loop .entries) (at-loop .p) v (at-loop .inv) (c .before .loop-test .taken) refl
+loop-again c = filled-more (c .before .before .loop .inv) (c .before .loop-test .taken) refl
 
 returns : tie.Need-returns Inv-loop μ-loop
-returns c =
-    let a = c .before .before .before .args in
-    filled-row (λ k. counters (a .t1) ((a .j .0 - 1) * 16 + k)) (c .before .loop .entries) (c .before .loop .p) (c .before .loop .inv) (c .loop-test .left)
+unfolding asRow
+returns c = filled-all (c .before .loop .inv) refl (c .loop-test .left)
 
 pub row-spec : {M : Type 1} → statement M
 row-spec =

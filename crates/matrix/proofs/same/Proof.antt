@@ -1,29 +1,25 @@
 -- `same` meets its contract. The invariant: the entries so far are the same.
-use mathlib.Core.Path.{sym}
-use mathlib.Core.Bool.{Bool}
-use Prim.Native.Nat.{ℕ, _-_}
+use mathlib.Core.Path.{_≡_}
+use mathlib.Core.Bool.{true}
+use Prim.Native.Nat.{_-_}
 use native.Mathlib.Omega.{arith}
 use borrow.Author.Needs.{needs}
 use borrow.Author.Tests.{eq-eqb, ne-eqb}
 use lib.Dec.{eqb}
-use Rattle.lists.proofs.Over.{all-not}
 use Rattle.consistency.specs.Known.{counters}
 use Rattle.matrix.specs.Entries.{same}
-use Rattle.matrix.proofs.Before.{Before, before-none, before-more, before-all}
+use Rattle.lists.proofs.Before.{Before, before-none, before-more, all-pass, one-fails}
 use Rattle.matrix.proofs.same.Statement.{statement}
 use Rattle.matrix.proofs.same.Tie as tie
 
 abbrev Inv-loop : tie.InvT-loop
-Inv-loop a b p₀ p = Before (λ k. eqb (counters a k) (counters b k)) p
+Inv-loop a b p₀ p = Before 16 (λ k. eqb (counters a k) (counters b k) ≡ true) p
 
 abbrev μ-loop : tie.MeasureT-loop
 μ-loop a b p₀ p = 16 - p
 
 loop-holds : tie.Need-loop-holds Inv-loop μ-loop
-loop-holds c =
-    let a = c .args in
-    let f : ℕ → Bool = λ k. eqb (counters (a .t1) k) (counters (a .t2) k) in
-    before-none f
+loop-holds c = before-none
 
 mul-x : tie.Need-mul-x Inv-loop μ-loop
 mul-x c = omega arith
@@ -40,9 +36,8 @@ array-copy-out-y c = omega arith
 returns : tie.Need-returns Inv-loop μ-loop
 unfolding same
 returns c =
-    let a = c .before .before .before .before .before .before .before .args in
-    let f : ℕ → Bool = λ k. eqb (counters (a .t1) k) (counters (a .t2) k) in
-    sym (all-not 16 f (c .before .before .before .before .before .before .loop .p) (c .before .before .before .before .before .loop-test .taken) (ne-eqb (counters (a .t1) (c .before .before .before .before .before .before .loop .p)) (counters (a .t2) (c .before .before .before .before .before .before .loop .p)) (c .if1 .taken)))
+    let at-loop = c .before .before .before .before .before .before in
+    one-fails (at-loop .loop .inv) (c .before .before .before .before .before .loop-test .taken) (ne-eqb _ _ (c .if1 .taken))
 
 add-p : tie.Need-add-p Inv-loop μ-loop
 add-p c = omega arith
@@ -52,16 +47,12 @@ loop-less c = search needs
 
 loop-again : tie.Need-loop-again Inv-loop μ-loop
 loop-again c =
-    let a = c .before .before .before .before .before .before .before .args in
-    let f : ℕ → Bool = λ k. eqb (counters (a .t1) k) (counters (a .t2) k) in
-    before-more f (c .before .before .before .before .before .before .loop .p) (c .before .before .before .before .before .before .loop .inv) (c .before .before .before .before .before .loop-test .taken) (eq-eqb (counters (a .t1) (c .before .before .before .before .before .before .loop .p)) (counters (a .t2) (c .before .before .before .before .before .before .loop .p)) (c .if1 .left))
+    let at-loop = c .before .before .before .before .before .before in
+    before-more (at-loop .loop .inv) (c .before .before .before .before .before .loop-test .taken) (eq-eqb _ _ (c .if1 .left))
 
 returns-2 : tie.Need-returns-2 Inv-loop μ-loop
 unfolding same
-returns-2 c =
-    let a = c .before .before .args in
-    let f : ℕ → Bool = λ k. eqb (counters (a .t1) k) (counters (a .t2) k) in
-    sym (before-all f (c .before .loop .p) (c .before .loop .inv) (c .loop-test .left))
+returns-2 c = all-pass (c .before .loop .inv) (c .loop-test .left)
 
 pub same-spec : {M : Type 1} → statement M
 same-spec =

@@ -1,14 +1,17 @@
 -- `with_row` meets its contract. The invariant: so many entries of the row are put.
-use mathlib.Core.Path.{refl}
-use Prim.Native.Nat.{_+_, _-_, _*_, _≤_}
+use mathlib.Core.Path.{_≡_, ap, _∙_}
+use Prim.Native.Nat.{ℕ, _+_, _-_, _*_, _/_}
 use native.Mathlib.Omega.{arith}
 use borrow.Author.Needs.{needs}
-use Rattle.matrix.proofs.RowPut.{RowPut, row-put-none, row-put-more, row-put-all}
+use Rattle.lists.proofs.Filling.{Filled, filled-from, filled-more, filled-to}
+use Rattle.book.proofs.Values.{tally}
+use Rattle.matrix.specs.Matrix.{asMatrix, withRow}
+use Rattle.matrix.proofs.RowPut.{rowPut, in-row, in-others}
 use Rattle.matrix.proofs.with_row.Statement.{statement}
 use Rattle.matrix.proofs.with_row.Tie as tie
 
 abbrev Inv-loop : tie.InvT-loop
-Inv-loop entries next₀ first p₀ next p = (first + 16 ≤ 256) × RowPut next₀ entries first next p
+Inv-loop entries next₀ first p₀ next p = Filled (tally 0) next₀ 256 (rowPut next₀ entries first) next (first + p)
 
 abbrev μ-loop : tie.MeasureT-loop
 μ-loop entries next₀ first p₀ next p = 16 - p
@@ -22,7 +25,9 @@ mul-first c = omega arith
 loop-holds : tie.Need-loop-holds Inv-loop μ-loop
 loop-holds c =
     let a = c .before .args in
-    (omega (arith, c .before .pre), row-put-none (a .matrix) (a .t3) ((a .j .0 - 1) * 16) (search needs))
+    let first : ℕ = (a .j .0 - 1) * 16 in
+    let begins : first + 0 ≡ first = omega arith in
+    rw begins (filled-from (omega arith) (omega arith) (λ i h. in-others (a .matrix) (a .t3) first i (λ e. absurd (omega arith))))
 
 mul-next : tie.Need-mul-next Inv-loop μ-loop
 mul-next c = omega arith
@@ -49,13 +54,17 @@ loop-again : tie.Need-loop-again Inv-loop μ-loop
 loop-again c =
     let a = c .before .before .before .before .args in
     let l = c .before .before .loop in
-    (l .inv .0, row-put-more (a .matrix) (a .t3) ((a .j .0 - 1) * 16) (l .next) (l .p) _ (l .inv .1) (c .before .loop-test .taken) (l .inv .0) refl)
+    let first : ℕ = (a .j .0 - 1) * 16 in
+    let next : first + l .p + 1 ≡ first + (l .p + 1) = omega arith in
+    rw next at (filled-more (l .inv) (omega arith) (in-row (a .matrix) (a .t3) first (l .p) (omega arith) (c .before .loop-test .taken)))
 
 returns : tie.Need-returns Inv-loop μ-loop
+unfolding asMatrix
 returns c =
     let a = c .before .before .before .args in
-    let l = c .before .loop in
-    row-put-all (a .matrix) (a .t3) (a .j .0 - 1) (l .next) (l .p) (l .inv .1) (c .loop-test .left)
+    let down : (a .j .0 - 1) * 16 / 16 ≡ a .j .0 - 1 = omega arith in
+    filled-to (c .before .loop .inv) (search needs) (λ i h m. in-others (a .matrix) (a .t3) ((a .j .0 - 1) * 16) i (λ e. absurd (omega arith)))
+    ∙ ap (λ (k : ℕ). withRow (a .matrix) k (a .t3)) down
 
 pub with-row-spec : {M : Type 1} → statement M
 with-row-spec =

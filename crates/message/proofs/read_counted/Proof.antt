@@ -6,7 +6,7 @@ use borrow.Author.Needs.{needs}
 use borrow.Author.Tests.{not-true, not-false}
 use Rattle.lists.specs.Over.{tabFrom}
 use Rattle.matrix.specs.Matrix.{asRow}
-use Rattle.message.proofs.PairTurns.{Sofar, pair-in, sofar-begun, sofar-short, sofar-half, sofar-refused, sofar-more, sofar-ended}
+use Rattle.message.proofs.PairLoop.{Sofar, pair-in, sofar-begun, sofar-short, sofar-half, sofar-refused, sofar-more, sofar-ended}
 use Rattle.message.proofs.read_counted.Statement.{statement}
 use Rattle.message.proofs.read_counted.Tie as tie
 
@@ -72,14 +72,18 @@ returns-3 c =
 sub-place : tie.Need-sub-place Inv-loop μ-loop
 sub-place c = let p = pair-in _ _ _ _ _ (sym (c .before .pair-formed .ensures) ∙ not-false _ (c .if1 .left)) in omega arith
 
-cast-t24 : tie.Need-cast-t24 Inv-loop μ-loop
-cast-t24 c = let p = pair-in _ _ _ _ _ (sym (c .before .pair-formed .ensures) ∙ not-false _ (c .if1 .left)) in omega arith
+entry-requires : tie.Need-entry-requires Inv-loop μ-loop
+entry-requires c κs = pair-in _ _ _ _ _ (sym (c .before .pair-formed .ensures) ∙ not-false _ (c .if1 .left)) .2
 
 mul-news : tie.Need-mul-news Inv-loop μ-loop
-mul-news c = let p = pair-in _ _ _ _ _ (sym (c .before .pair-formed .ensures) ∙ not-false _ (c .if1 .left)) in omega arith
+mul-news c =
+    let p = pair-in _ _ _ _ _ (sym (c .before .before .pair-formed .ensures) ∙ not-false _ (c .before .if1 .left)) in
+    omega arith
 
 array-set-from-news : tie.Need-array-set-from-news Inv-loop μ-loop
-array-set-from-news c = let p = pair-in _ _ _ _ _ (sym (c .before .pair-formed .ensures) ∙ not-false _ (c .if1 .left)) in omega arith
+array-set-from-news c =
+    let p = pair-in _ _ _ _ _ (sym (c .before .before .pair-formed .ensures) ∙ not-false _ (c .before .if1 .left)) in
+    omega arith
 
 add-k : tie.Need-add-k Inv-loop μ-loop
 add-k c = omega arith
@@ -89,7 +93,8 @@ loop-less c = omega arith
 
 loop-again : tie.Need-loop-again Inv-loop μ-loop
 loop-again c =
-    let at-counter = c .before .before .before in
+    let at-test = c .before in
+    let at-counter = at-test .before .before .before in
     let at-second = at-counter .before .before in
     let at-process = at-second .before .before in
     let at-first = at-process .before .before in
@@ -97,7 +102,7 @@ loop-again c =
     sofar-more _ _ _ _ _ _ _ _ _ (at-loop .loop .inv) (at-first .before .loop-test .taken) _ _
     (sym (at-first .read-number .ensures) ∙ at-process .process .given .1) _ _
     (sym (at-second .read-number2 .ensures) ∙ at-counter .counter .given .1)
-    (sym (c .before .pair-formed .ensures) ∙ not-false _ (c .if1 .left))
+    (sym (at-test .before .pair-formed .ensures) ∙ not-false _ (at-test .if1 .left)) _ (c .entry .ensures)
 
 returns-4 : tie.Need-returns-4 Inv-loop μ-loop
 returns-4 c = sofar-ended _ _ _ _ _ _ _ _ _ (c .before .loop .inv) (c .loop-test .left)
@@ -120,7 +125,7 @@ read-counted-spec =
     pair-formed-requires
     returns-3
     sub-place
-    cast-t24
+    entry-requires
     mul-news
     array-set-from-news
     add-k

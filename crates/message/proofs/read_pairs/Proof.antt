@@ -1,7 +1,7 @@
 -- `read_pairs` meets its contract.
 use mathlib.Core.Path.{sym, _∙_}
 use borrow.Author.Needs.{needs}
-use Rattle.message.proofs.PairTurns.{no-count, count-first}
+use Rattle.message.proofs.PairLoop.{no-count, count-first}
 use Rattle.message.proofs.read_pairs.Statement.{statement}
 use Rattle.message.proofs.read_pairs.Tie as tie
 

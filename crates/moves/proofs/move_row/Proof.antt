@@ -1,19 +1,22 @@
 -- `move_row` meets its contract. The invariant: the entries so far stand at their new place.
-use Prim.Native.Nat.{_-_}
+use mathlib.Core.Path.{ap, _∙_}
+use Prim.Native.Nat.{ℕ, _+_, _-_, _*_}
 use native.Mathlib.Omega.{arith}
 use borrow.Author.Needs.{needs}
-use Rattle.moves.proofs.RowTurns.{RowMoved, row-begun, row-length, row-more, row-ended}
+use Rattle.lists.proofs.Stores.{Stored, stored-none, stored-more, stored-after, stored-all}
+use Rattle.consistency.specs.Known.{counters}
+use Rattle.moves.specs.Parts.{lowered}
 use Rattle.moves.proofs.move_row.Statement.{statement}
 use Rattle.moves.proofs.move_row.Tie as tie
 
 abbrev Inv-loop : tie.InvT-loop
-Inv-loop table₀ from to off p₀ table p = RowMoved table₀ from to off table p
+Inv-loop table₀ from to off p₀ table p = Stored 16 (lowered table₀ from off) table₀ (to * 16) table p
 
 abbrev μ-loop : tie.MeasureT-loop
 μ-loop table₀ from to off p₀ table p = 16 - p
 
 loop-holds : tie.Need-loop-holds Inv-loop μ-loop
-loop-holds c = row-begun _ _ _ _
+loop-holds c = stored-none
 
 mul-v : tie.Need-mul-v Inv-loop μ-loop
 mul-v c = omega arith
@@ -25,7 +28,7 @@ mul-v-2 : tie.Need-mul-v-2 Inv-loop μ-loop
 mul-v-2 c = omega arith
 
 slice-read-v : tie.Need-slice-read-v Inv-loop μ-loop
-slice-read-v c = omega (arith, row-length _ _ _ _ _ _ (c .before .before .loop .inv))
+slice-read-v c = omega arith
 
 mul-less : tie.Need-mul-less Inv-loop μ-loop
 mul-less c = omega arith
@@ -46,7 +49,7 @@ mul-table-2 : tie.Need-mul-table-2 Inv-loop μ-loop
 mul-table-2 c = omega arith
 
 slice-write-table : tie.Need-slice-write-table Inv-loop μ-loop
-slice-write-table c = omega (arith, row-length _ _ _ _ _ _ (c .before .before .before .before .loop .inv))
+slice-write-table c = omega arith
 
 add-p : tie.Need-add-p Inv-loop μ-loop
 add-p c = omega arith
@@ -56,14 +59,17 @@ loop-less c = omega arith
 
 loop-again : tie.Need-loop-again Inv-loop μ-loop
 loop-again c =
-    let at-loop-test = c .before .before .before in
-    row-more _ _ _ _ _ _ (at-loop-test .before .loop .inv) (omega arith) (at-loop-test .loop-test .taken) _ (c .less .ensures)
+    let pass = c .before .before .before in
+    let l = pass .before .loop in
+    let a = pass .before .before .before .args in
+    let old = stored-after (l .inv) (a .from * 16 + l .p) (omega arith) in
+    stored-more (l .inv) (pass .loop-test .taken) _ (c .less .ensures ∙ ap (λ (v : ℕ). v - counters (a .t4) (l .p)) old)
 
 same-length : tie.Need-same-length Inv-loop μ-loop
-same-length c = row-length _ _ _ _ _ _ (c .before .loop .inv)
+same-length c = c .before .loop .inv .same
 
 returns : tie.Need-returns Inv-loop μ-loop
-returns c = row-ended _ _ _ _ _ _ (c .before .loop .inv) (c .loop-test .left)
+returns c = stored-all (c .before .loop .inv) (c .loop-test .left)
 
 pub move-row-spec : {M : Type 1} → statement M
 move-row-spec =

@@ -4,28 +4,25 @@ use Prim.Native.Nat.{ℕ, _-_, _*_, _/_, _%_, _<_}
 use native.Mathlib.Omega.{arith}
 use borrow.Author.Needs.{needs}
 use lib.ListN.{length, getD}
+use Rattle.lists.proofs.Filling.{Filled, filled-none, filled-more, filled-as}
 use Rattle.book.specs.View.{counterFrom, counterAt}
+use Rattle.book.proofs.Values.{tally, tally-of}
 use Rattle.book.proofs.Starts.{placed-row, placed-counter}
 use Rattle.consistency.specs.Set.{chosen}
 use Rattle.consistency.proofs.Permits.{from-one}
-use Rattle.plans.proofs.Filled.{FilledTo, filled-none, filled-more, filled-as, filled-rows, tally}
+use Rattle.plans.proofs.Filled.{filled-rows}
 use Rattle.plans.proofs.held_by.Statement.{statement}
 use Rattle.plans.proofs.held_by.Tie as tie
 
 abbrev Inv-loop : tie.InvT-loop
 Inv-loop table line n first held₀ i₀ held i =
-    FilledTo 256 (n * 16) (tally 0) (λ k. tally (counterFrom table (getD first (k / 16) 0) (chosen line (k / 16)) (k % 16))) held i
+    Filled (tally 0) held₀ (n * 16) (λ k. tally (counterFrom table (getD first (k / 16) 0) (chosen line (k / 16)) (k % 16))) held i
 
 abbrev μ-loop : tie.MeasureT-loop
 μ-loop table line n first held₀ i₀ held i = n * 16 - i
 
 loop-holds : tie.Need-loop-holds Inv-loop μ-loop
-loop-holds c =
-    let at = c .before .before .before in
-    let a = at .args in
-    filled-none 256 (a .rows .shape .n * 16) (tally 0)
-    (λ k. tally (counterFrom (a .table .now) (getD (a .rows .first) (k / 16) 0) (chosen (a .t3) (k / 16)) (k % 16)))
-    (omega (arith, at .pre .1 .0))
+loop-holds c = filled-none (omega (arith, c .before .before .before .pre .0 .most))
 
 -- where the first rows are taken out: the process of an entry
 there : (c : tie.After-first Inv-loop μ-loop) → let a = c .before .before .before .args in
@@ -33,7 +30,7 @@ there : (c : tie.After-first Inv-loop μ-loop) → let a = c .before .before .be
 there c i h =
     let at = c .before .before .before in
     let long : length (at .args .rows .shape .counts) ≡ 16 = search needs in
-    omega (arith, at .pre .1 .0)
+    omega (arith, at .pre .0 .most)
 
 mul-loop : tie.Need-mul-loop Inv-loop μ-loop
 mul-loop c = omega arith
@@ -58,8 +55,8 @@ counter-requires c κs =
     let at = c .before .before .before .before .before .before in
     let i = c .before .before .loop .i in
     let h = c .before .loop-test .taken in (
-      placed-row (at .pre .0 .0) (i / 16) (there (c .before .before .before) i h) (chosen (at .args .t3) (i / 16)) (at .pre .1 .1 (i / 16) (omega (arith, h))),
-      (omega arith, (omega arith, at .pre .0 .1)),
+      placed-row (at .pre .0 .placed) (i / 16) (there (c .before .before .before) i h) (chosen (at .args .t3) (i / 16)) (at .pre .1 (i / 16) (omega (arith, h))),
+      (omega arith, (omega arith, at .pre .0 .long)),
     )
 
 mul-held : tie.Need-mul-held Inv-loop μ-loop
@@ -81,15 +78,15 @@ loop-again c =
     let j = at-loop .i / 16 in
     let f : ℕ → ℕ = counterFrom (a .table .now) (getD (a .rows .first) j 0) (chosen (a .t3) j) in
     let here = c .counter .ensures ∙ ap f (from-one (at-loop .i % 16)) in
-    filled-more (c .counter .result) (at-loop .inv) (c .before .before .loop-test .taken) (ap tally here)
+    filled-more (at-loop .inv) (c .before .before .loop-test .taken) (tally-of here)
 
 returns : tie.Need-returns Inv-loop μ-loop
 returns c =
     let at = c .before .before .before .before .before in
     let a = at .args in
     let f : ℕ → ℕ → ℕ = λ j p. counterAt (a .rows .shape .counts) (a .table .now) j (chosen (a .t3) j) p in
-    let filled = filled-as {g = λ i. tally (f (i / 16) (i % 16))} (c .before .loop .inv) (λ i h.
-    ap tally (placed-counter (at .pre .0 .0) (i / 16) (there (c .before .before) i h) (a .table .now) (chosen (a .t3) (i / 16)) (i % 16))) in
+    let filled = filled-as (c .before .loop .inv) {g = λ i. tally (f (i / 16) (i % 16))} (λ i h.
+    ap tally (placed-counter (at .pre .0 .placed) (i / 16) (there (c .before .before) i h) (a .table .now) (chosen (a .t3) (i / 16)) (i % 16))) in
     filled-rows (a .rows .shape .n) f filled (c .loop-test .left)
 
 pub held-by-spec : {M : Type 1} → statement M

@@ -4,22 +4,22 @@ use native.Mathlib.Omega.{arith}
 use borrow.Author.Needs.{needs}
 use lib.ListN.{getD}
 use Rattle.lists.specs.Pick.{pick}
+use Rattle.lists.proofs.Filling.{Filled, filled-none, filled-more}
 use Rattle.consistency.specs.Set.{chosen}
 use Rattle.restart.specs.Plan.{restarts}
-use Rattle.plans.proofs.Filled.{FilledTo, filled-none, filled-more, filled-numbers}
+use Rattle.plans.proofs.Filled.{filled-numbers}
 use Rattle.plans.proofs.kept_from.Statement.{statement}
 use Rattle.plans.proofs.kept_from.Tie as tie
 
 abbrev Inv-loop : tie.InvT-loop
-Inv-loop purpose line n counts kept₀ j₀ kept j = FilledTo 16 n 0 (λ i. pick (restarts purpose) 1 (getD counts i 0 - (chosen line i - 1))) kept j
+Inv-loop purpose line n counts kept₀ j₀ kept j =
+    Filled 0 kept₀ n (λ i. pick (restarts purpose) 1 (getD counts i 0 - (chosen line i - 1))) kept j
 
 abbrev μ-loop : tie.MeasureT-loop
 μ-loop purpose line n counts kept₀ j₀ kept j = n - j
 
 loop-holds : tie.Need-loop-holds Inv-loop μ-loop
-loop-holds c =
-    let a = c .before .args in
-    filled-none 16 (a .shape .n) 0 (λ i. pick (restarts (a .purpose)) 1 (getD (a .shape .counts) i 0 - (chosen (a .t2) i - 1))) (c .before .pre .0)
+loop-holds c = filled-none (omega arith)
 
 mul-are-kept : tie.Need-mul-are-kept Inv-loop μ-loop
 mul-are-kept c = omega arith
@@ -49,7 +49,7 @@ loop-less : tie.Need-loop-less Inv-loop μ-loop
 loop-less c = search needs
 
 loop-again : tie.Need-loop-again Inv-loop μ-loop
-loop-again c = filled-more (c .are-kept .result) (c .before .before .before .loop .inv) (c .before .before .loop-test .taken) (c .are-kept .ensures)
+loop-again c = filled-more (c .before .before .before .loop .inv) (c .before .before .loop-test .taken) (c .are-kept .ensures)
 
 returns : tie.Need-returns Inv-loop μ-loop
 returns c = filled-numbers (c .before .loop .inv) (c .loop-test .left)

@@ -3,14 +3,16 @@ use mathlib.Core.Path.{sym, subst, _∙_}
 use mathlib.Core.List.{List}
 use borrow.Author.Needs.{needs}
 use borrow.Author.Tests.{not-true, not-false}
+use Rattle.book.specs.Lent.{lent}
 use Rattle.book.specs.declared.Checkpoint.{Checkpoint}
 use Rattle.line_theory.specs.Sets.{cut}
 use Rattle.line_theory.specs.OfTables.{viewOf}
 use Rattle.consistency.specs.Set.{chosen}
-use Rattle.consistency.specs.Given.{SetGiven}
+use Rattle.consistency.specs.Given.{AllNamed}
 use Rattle.finder.specs.Line.{IsLineOf}
 use Rattle.finder.specs.Steps.{AbsentZero}
-use Rattle.plans.proofs.Given.{few-processes, line-stays, line-advanced, newest-given, newest-zero}
+use Rattle.finder.proofs.Calls.{newest-named, newest-absent}
+use Rattle.plans.proofs.Given.{few-processes, line-stays, line-advanced}
 use Rattle.plans.proofs.line_checkpoints.Statement.{statement}
 use Rattle.plans.proofs.line_checkpoints.Tie as tie
 
@@ -25,7 +27,7 @@ returns c =
     let a = c .before .before .before .before .before .before .args in
     let asked = c .before .before .advances in
     c .oldest-set .ensures
-    ∙ line-stays (viewOf (a .rows .shape) (a .sent .now) (a .received .now)) (a .purpose)
+    ∙ line-stays (viewOf (lent (a .rows .shape) (a .sent .now) (a .received .now))) (a .purpose)
     (sym (asked .ensures) ∙ not-true (asked .result) (c .before .if1 .taken))
 
 newest-set-requires : tie.Need-newest-set-requires
@@ -34,17 +36,17 @@ newest-set-requires c κs = search needs
 find-from-requires : tie.Need-find-from-requires
 find-from-requires c κs =
     let at = c .before .before .before .before .before .before in
-    let a = at .args in
+    let rows = at .args .rows in
     let newest = sym (c .newest-set .ensures) in (
-      subst (SetGiven (a .rows) (a .sent .now) (a .received .now)) newest (newest-given (at .pre)),
-      subst (AbsentZero (a .rows)) newest (newest-zero (at .pre)),
+      (at .pre, subst (AllNamed (rows .shape)) newest (newest-named (at .pre .accepted))),
+      subst (AbsentZero rows) newest (newest-absent (at .pre .accepted)),
     )
 
 returns-2 : tie.Need-returns-2
 returns-2 c =
     let at = c .before .before .before .before .before .before .before .before in
     let a = at .args in
-    let v = viewOf (a .rows .shape) (a .sent .now) (a .received .now) in
+    let v = viewOf (lent (a .rows .shape) (a .sent .now) (a .received .now)) in
     let asked = c .before .before .before .before .advances in
     let found = c .before .find-from in
     line-advanced (at .pre .accepted) (a .purpose) (found .result)

@@ -3,18 +3,20 @@ use Prim.Native.Nat.{_-_}
 use native.Mathlib.Omega.{arith}
 use mathlib.Core.Path.{refl}
 use borrow.Author.Needs.{needs}
-use Rattle.plans.proofs.Filled.{FilledTo, filled-none, filled-more, filled-checkpoints, checkpoint}
+use Rattle.lists.proofs.Filling.{Filled, filled-none, filled-more}
+use Rattle.book.proofs.Values.{checkpoint}
+use Rattle.plans.proofs.Filled.{filled-checkpoints}
 use Rattle.plans.proofs.oldest_set.Statement.{statement}
 use Rattle.plans.proofs.oldest_set.Tie as tie
 
 abbrev Inv-loop : tie.InvT-loop
-Inv-loop n set₀ j₀ set j = FilledTo 16 n (checkpoint 0) (λ _. checkpoint 1) set j
+Inv-loop n set₀ j₀ set j = Filled (checkpoint 0) set₀ n (λ _. checkpoint 1) set j
 
 abbrev μ-loop : tie.MeasureT-loop
 μ-loop n set₀ j₀ set j = n - j
 
 loop-holds : tie.Need-loop-holds Inv-loop μ-loop
-loop-holds c = filled-none 16 (c .args .n) (checkpoint 0) (λ _. checkpoint 1) (c .pre)
+loop-holds c = filled-none (omega arith)
 
 mul-set : tie.Need-mul-set Inv-loop μ-loop
 mul-set c = omega arith
@@ -29,7 +31,7 @@ loop-less : tie.Need-loop-less Inv-loop μ-loop
 loop-less c = search needs
 
 loop-again : tie.Need-loop-again Inv-loop μ-loop
-loop-again c = filled-more (checkpoint 1) (c .before .loop .inv) (c .loop-test .taken) refl
+loop-again c = filled-more (c .before .loop .inv) (c .loop-test .taken) refl
 
 returns : tie.Need-returns Inv-loop μ-loop
 returns c = filled-checkpoints (λ _. 1) (c .before .loop .inv) (c .loop-test .left)

@@ -5,26 +5,23 @@ use native.Mathlib.Omega.{arith}
 use borrow.Author.Needs.{needs}
 use lib.ListN.{getD}
 use Rattle.lists.specs.Pick.{pick}
+use Rattle.lists.proofs.Filling.{Filled, filled-none, filled-more}
 use Rattle.consistency.specs.Set.{chosen}
 use Rattle.restart.specs.Plan.{restarts}
-use Rattle.plans.proofs.Filled.{FilledTo, filled-none, filled-more, filled-numbers}
+use Rattle.plans.proofs.Filled.{filled-numbers}
 use Rattle.plans.proofs.order_to.Statement.{statement}
 use Rattle.plans.proofs.order_to.Tie as tie
 
 abbrev Inv-loop : tie.InvT-loop
 Inv-loop purpose line n counts before₀ after₀ j₀ before after j =
-    FilledTo 16 n 0 (λ i. chosen line i - 1) before j
-    × FilledTo 16 n 0 (λ i. pick (restarts purpose) (getD counts i 0 - chosen line i) 0) after j
+    Filled 0 before₀ n (λ i. chosen line i - 1) before j
+    × Filled 0 after₀ n (λ i. pick (restarts purpose) (getD counts i 0 - chosen line i) 0) after j
 
 abbrev μ-loop : tie.MeasureT-loop
 μ-loop purpose line n counts before₀ after₀ j₀ before after j = n - j
 
 loop-holds : tie.Need-loop-holds Inv-loop μ-loop
-loop-holds c =
-    let a = c .before .args in (
-      filled-none 16 (a .shape .n) 0 (λ i. chosen (a .t2) i - 1) (c .before .pre .0),
-      filled-none 16 (a .shape .n) 0 (λ i. pick (restarts (a .purpose)) (getD (a .shape .counts) i 0 - chosen (a .t2) i) 0) (c .before .pre .0),
-    )
+loop-holds c = (filled-none (omega arith), filled-none (omega arith))
 
 mul-r : tie.Need-mul-r Inv-loop μ-loop
 mul-r c = omega arith
@@ -69,11 +66,8 @@ loop-less c = search needs
 loop-again : tie.Need-loop-again Inv-loop μ-loop
 loop-again c =
     let at-loop = c .before .before .before .before .loop in
-    let line = c .before .before .before .before .before .before .args .t2 in
-    let more = c .before .before .before .loop-test .taken in (
-      filled-more (chosen line (at-loop .j) - 1) (at-loop .inv .0) more refl,
-      filled-more (c .go-after .result) (at-loop .inv .1) more (c .go-after .ensures),
-    )
+    let more = c .before .before .before .loop-test .taken in
+    (filled-more (at-loop .inv .0) more refl, filled-more (at-loop .inv .1) more (c .go-after .ensures))
 
 returns : tie.Need-returns Inv-loop μ-loop
 returns c =

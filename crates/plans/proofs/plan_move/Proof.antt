@@ -1,9 +1,10 @@
 -- `plan_move` meets its contract.
 use mathlib.Core.Path.{refl}
 use borrow.Author.Needs.{needs}
+use Rattle.book.specs.Lent.{lent}
 use Rattle.line_theory.specs.OfTables.{viewOf}
-use Rattle.line_theory.proofs.Accepted.{accepted-lengths}
-use Rattle.plans.proofs.Given.{few-processes, line-among, rows-placed}
+use Rattle.consistency.proofs.Calls.{sent-whole, received-whole}
+use Rattle.plans.proofs.Given.{few-processes, line-among}
 use Rattle.plans.proofs.Plans.{order-is, plan-is}
 use Rattle.plans.proofs.plan_move.Statement.{statement}
 use Rattle.plans.proofs.plan_move.Tie as tie
@@ -20,19 +21,15 @@ held-by-requires : tie.Need-held-by-requires
 held-by-requires c κs =
     let at = c .before .before .before .before .before in
     let a = at .args in
-    let found = c .before .line-checkpoints in (
-      (rows-placed (at .pre), accepted-lengths (a .rows .shape) (a .sent .now) (a .received .now) (at .pre .accepted .passed) .0),
-      line-among (at .pre .accepted) (a .purpose) (found .result) (found .ensures),
-    )
+    let found = c .before .line-checkpoints in
+    (sent-whole (at .pre), line-among (at .pre .accepted) (a .purpose) (found .result) (found .ensures) .1)
 
 held-by-requires-2 : tie.Need-held-by-requires-2
 held-by-requires-2 c κs =
     let at = c .before .before .before .before .before .before in
     let a = at .args in
-    let found = c .before .before .line-checkpoints in (
-      (rows-placed (at .pre), accepted-lengths (a .rows .shape) (a .sent .now) (a .received .now) (at .pre .accepted .passed) .1),
-      line-among (at .pre .accepted) (a .purpose) (found .result) (found .ensures),
-    )
+    let found = c .before .before .line-checkpoints in
+    (received-whole (at .pre), line-among (at .pre .accepted) (a .purpose) (found .result) (found .ensures) .1)
 
 order-to-requires : tie.Need-order-to-requires
 order-to-requires c κs =
@@ -44,7 +41,7 @@ returns : tie.Need-returns
 returns c =
     let at = c .before .before .before .before .before .before .before .before in
     let a = at .args in
-    let v = viewOf (a .rows .shape) (a .sent .now) (a .received .now) in
+    let v = viewOf (lent (a .rows .shape) (a .sent .now) (a .received .now)) in
     let few = few-processes (at .pre .accepted) in
     let found = c .before .before .before .before .line-checkpoints in
     let order = c .order-to in

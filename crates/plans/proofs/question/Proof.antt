@@ -2,6 +2,7 @@
 use mathlib.Core.Path.{sym, _∙_}
 use borrow.Author.Needs.{needs}
 use borrow.Author.Tests.{not-true, not-false}
+use Rattle.book.specs.Lent.{lent}
 use Rattle.restart.proofs.Orders.{move-passes}
 use Rattle.plans.proofs.Asked.{tables-refused, purpose-refused}
 use Rattle.plans.proofs.question.Statement.{statement}
@@ -14,7 +15,7 @@ returns : tie.Need-returns
 returns c =
     let a = c .before .before .before .before .args in
     let question = c .before .question in
-    tables-refused (a .shape) (a .sent .now) (a .received .now) (a .purpose) (question .result) (question .ensures) (c .if1 .taken)
+    tables-refused (lent (a .shape) (a .sent .now) (a .received .now)) (a .purpose) (question .result) (question .ensures) (c .if1 .taken)
 
 is-purpose-requires : tie.Need-is-purpose-requires
 is-purpose-requires c κs = search needs
@@ -23,7 +24,7 @@ returns-2 : tie.Need-returns-2
 returns-2 c =
     let a = c .before .before .before .before .before .before .args in
     let asked = c .before .is-purpose in
-    purpose-refused (a .shape) (a .sent .now) (a .received .now) (a .purpose)
+    purpose-refused (lent (a .shape) (a .sent .now) (a .received .now)) (a .purpose)
     (sym (c .before .before .before .question .ensures) ∙ c .before .before .if1 .left)
     (sym (asked .ensures) ∙ not-true (asked .result) (c .if2 .taken))
 
@@ -31,7 +32,7 @@ returns-3 : tie.Need-returns-3
 returns-3 c =
     let a = c .before .before .before .before .before .before .args in
     let asked = c .before .is-purpose in
-    sym (move-passes (a .shape) (a .sent .now) (a .received .now) (a .purpose)
+    sym (move-passes (lent (a .shape) (a .sent .now) (a .received .now)) (a .purpose)
     (sym (c .before .before .before .question .ensures) ∙ c .before .before .if1 .left)
     (sym (asked .ensures) ∙ not-false (asked .result) (c .if2 .left)))
 

@@ -1,18 +1,20 @@
 -- `reader::copy_table` meets its contract. The invariant: so many entries are copied.
+use mathlib.Core.Path.{refl}
 use Prim.Native.Nat.{_-_}
 use native.Mathlib.Omega.{arith}
-use Rattle.reader.proofs.Stores.{Copied, copied-begun, copied-length, copied-more, copied-ended}
+use lib.ListN.{getD}
+use Rattle.lists.proofs.Filling.{Filled, filled-none, filled-more, filled-copy}
 use Rattle.reader.proofs.copy_table.Statement.{statement}
 use Rattle.reader.proofs.copy_table.Tie as tie
 
 abbrev Inv-loop : tie.InvT-loop
-Inv-loop from to₀ i₀ to i = Copied from to₀ to i
+Inv-loop from to₀ i₀ to i = Filled 0 to₀ 4096 (λ k. getD from k 0) to i
 
 abbrev μ-loop : tie.MeasureT-loop
 μ-loop from to₀ i₀ to i = 4096 - i
 
 loop-holds : tie.Need-loop-holds Inv-loop μ-loop
-loop-holds c = copied-begun _ _
+loop-holds c = filled-none (omega arith)
 
 mul-to : tie.Need-mul-to Inv-loop μ-loop
 mul-to c = omega arith
@@ -24,8 +26,7 @@ mul-to-2 : tie.Need-mul-to-2 Inv-loop μ-loop
 mul-to-2 c = omega arith
 
 slice-write-to : tie.Need-slice-write-to Inv-loop μ-loop
-slice-write-to c =
-    let long = copied-length _ _ _ _ (c .before .before .loop .inv) (omega arith) (omega arith) in omega arith
+slice-write-to c = omega arith
 
 add-i : tie.Need-add-i Inv-loop μ-loop
 add-i c = omega arith
@@ -34,13 +35,13 @@ loop-less : tie.Need-loop-less Inv-loop μ-loop
 loop-less c = omega arith
 
 loop-again : tie.Need-loop-again Inv-loop μ-loop
-loop-again c = copied-more _ _ _ _ (c .before .before .loop .inv) (omega arith) (omega arith) (c .before .loop-test .taken)
+loop-again c = filled-more (c .before .before .loop .inv) (c .before .loop-test .taken) refl
 
 same-length : tie.Need-same-length Inv-loop μ-loop
-same-length c = copied-length _ _ _ _ (c .before .loop .inv) (omega arith) (omega arith)
+same-length c = c .before .loop .inv .long
 
 returns : tie.Need-returns Inv-loop μ-loop
-returns c = copied-ended _ _ _ _ (c .before .loop .inv) (omega arith) (omega arith) (c .loop-test .left)
+returns c = filled-copy (c .before .loop .inv) (omega arith) (omega arith) (c .loop-test .left)
 
 pub copy-table-spec : {M : Type 1} → statement M
 copy-table-spec =

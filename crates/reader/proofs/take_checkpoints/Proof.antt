@@ -2,7 +2,8 @@
 use mathlib.Core.Path.{_∙_}
 use Prim.Native.Nat.{_-_}
 use native.Mathlib.Omega.{arith}
-use Rattle.reader.proofs.CheckpointTurns.{Passed, passed-begun, passed-sent, passed-received, sent-fits, received-fits, sent-refused, received-refused, passed-more, passed-ended}
+use borrow.Author.Needs.{needs}
+use Rattle.reader.proofs.CheckpointLoop.{Passed, passed-begun, passed-sent, passed-received, sent-fits, received-fits, sent-refused, received-refused, passed-more, passed-ended}
 use Rattle.reader.proofs.take_checkpoints.Statement.{statement}
 use Rattle.reader.proofs.take_checkpoints.Tie as tie
 
@@ -21,57 +22,73 @@ add-start c = omega arith
 mul-start : tie.Need-mul-start Inv-loop μ-loop
 mul-start c = omega arith
 
+sent-zeros-requires : tie.Need-sent-zeros-requires Inv-loop μ-loop
+sent-zeros-requires c κs = search needs
+
 take-counters-requires : tie.Need-take-counters-requires Inv-loop μ-loop
 take-counters-requires c κs =
-    let at-loop = c .before .before in
+    let at-test = c .before .before in
+    let at-loop = at-test .before in
     let pre = at-loop .before .before .before .before .pre in
-    sent-fits _ _ _ _ _ _ _ _ _ _ _ _ (at-loop .loop .inv) (pre .0) (pre .1) (c .before .loop-test .taken)
+    sent-fits _ _ _ _ _ _ _ _ _ _ _ _ (at-loop .loop .inv) (pre .0) (pre .1) (at-test .loop-test .taken)
 
 same-length : tie.Need-same-length Inv-loop μ-loop
 same-length c =
     let at-call = c .before .before .before .before in
-    at-call .take-counters .kept .1 .1 .1 .1 .1 .0 ∙ passed-sent _ _ _ _ _ _ _ _ _ _ _ _ (at-call .before .before .before .loop .inv)
+    at-call .take-counters .kept .1 .1 .1 .1 .1 .1 .0 ∙ passed-sent _ _ _ _ _ _ _ _ _ _ _ _ (at-call .before .before .before .before .loop .inv)
 
 same-length-2 : tie.Need-same-length-2 Inv-loop μ-loop
-same-length-2 c = passed-received _ _ _ _ _ _ _ _ _ _ _ _ (c .before .before .before .before .before .before .before .loop .inv)
+same-length-2 c =
+    let at-call = c .before .before .before .before in
+    passed-received _ _ _ _ _ _ _ _ _ _ _ _ (at-call .before .before .before .before .loop .inv)
 
 returns : tie.Need-returns Inv-loop μ-loop
 returns c =
     let at-call = c .before .before .before .before in
-    let at-loop-test = at-call .before .before in
-    let at-loop = at-loop-test .before in
+    let at-zeros = at-call .before .before in
+    let at-test = at-zeros .before in
+    let at-loop = at-test .before in
     let pre = at-loop .before .before .before .before .pre in
-    sent-refused _ _ _ _ _ _ _ _ _ _ _ _ (at-loop .loop .inv) (pre .0) (pre .1) (at-loop-test .loop-test .taken) _ _
-    (at-call .take-counters .ensures) (c .if1 .taken)
+    sent-refused _ _ _ _ _ _ _ _ _ _ _ _ (at-loop .loop .inv) (pre .0) (pre .1) (at-test .loop-test .taken)
+    _ (at-zeros .sent-zeros .ensures) _ _ (at-call .take-counters .ensures) (c .if1 .taken)
+
+received-zeros-requires : tie.Need-received-zeros-requires Inv-loop μ-loop
+received-zeros-requires c κs = search needs
 
 take-counters-requires-2 : tie.Need-take-counters-requires-2 Inv-loop μ-loop
 take-counters-requires-2 c κs =
-    let at-loop-test = c .before .before .before .before .before .before .before in
-    let at-loop = at-loop-test .before in
+    let at-call = c .before .before .before .before .before .before in
+    let at-test = at-call .before .before .before in
+    let at-loop = at-test .before in
     let pre = at-loop .before .before .before .before .pre in
-    received-fits _ _ _ _ _ _ _ _ _ _ _ _ (at-loop .loop .inv) (pre .0) (pre .1) (at-loop-test .loop-test .taken)
+    received-fits _ _ _ _ _ _ _ _ _ _ _ _ (at-loop .loop .inv) (pre .0) (pre .1) (at-test .loop-test .taken)
 
 same-length-3 : tie.Need-same-length-3 Inv-loop μ-loop
 same-length-3 c =
-    let at-call = c .before .before .before .before .before .before .before .before .before .before in
-    at-call .take-counters .kept .1 .1 .1 .1 .1 .0 ∙ passed-sent _ _ _ _ _ _ _ _ _ _ _ _ (at-call .before .before .before .loop .inv)
+    let at-if1 = c .before .before .before .before .before .before .before in
+    let at-call = at-if1 .before .before .before .before in
+    at-call .take-counters .kept .1 .1 .1 .1 .1 .1 .0 ∙ passed-sent _ _ _ _ _ _ _ _ _ _ _ _ (at-call .before .before .before .before .loop .inv)
 
 same-length-4 : tie.Need-same-length-4 Inv-loop μ-loop
 same-length-4 c =
     let at-call2 = c .before .before .before .before in
-    let at-call = at-call2 .before .before .before .before .before .before in
-    at-call2 .take-counters2 .kept .1 .1 .1 .1 .1 .0 ∙ passed-received _ _ _ _ _ _ _ _ _ _ _ _ (at-call .before .before .before .loop .inv)
+    let at-if1 = at-call2 .before .before .before in
+    let at-call = at-if1 .before .before .before .before in
+    at-call2 .take-counters2 .kept .1 .1 .1 .1 .1 .1 .0 ∙ passed-received _ _ _ _ _ _ _ _ _ _ _ _ (at-call .before .before .before .before .loop .inv)
 
 returns-2 : tie.Need-returns-2 Inv-loop μ-loop
 returns-2 c =
     let at-call2 = c .before .before .before .before in
-    let at-if1 = at-call2 .before .before in
+    let at-zeros2 = at-call2 .before .before in
+    let at-if1 = at-zeros2 .before in
     let at-call = at-if1 .before .before .before .before in
-    let at-loop-test = at-call .before .before in
-    let at-loop = at-loop-test .before in
+    let at-zeros = at-call .before .before in
+    let at-test = at-zeros .before in
+    let at-loop = at-test .before in
     let pre = at-loop .before .before .before .before .pre in
-    received-refused _ _ _ _ _ _ _ _ _ _ _ _ (at-loop .loop .inv) (pre .0) (pre .1) (at-loop-test .loop-test .taken) _ _
-    (at-call .take-counters .ensures) (at-if1 .if1 .left) _ _ (at-call2 .take-counters2 .ensures) (c .if2 .taken)
+    received-refused _ _ _ _ _ _ _ _ _ _ _ _ (at-loop .loop .inv) (pre .0) (pre .1) (at-test .loop-test .taken)
+    _ (at-zeros .sent-zeros .ensures) _ _ (at-call .take-counters .ensures) (at-if1 .if1 .left)
+    _ (at-zeros2 .received-zeros .ensures) _ _ (at-call2 .take-counters2 .ensures) (c .if2 .taken)
 
 add-r : tie.Need-add-r Inv-loop μ-loop
 add-r c = omega arith
@@ -82,13 +99,16 @@ loop-less c = omega arith
 loop-again : tie.Need-loop-again Inv-loop μ-loop
 loop-again c =
     let at-call2 = c .before .before .before .before in
-    let at-if1 = at-call2 .before .before in
+    let at-zeros2 = at-call2 .before .before in
+    let at-if1 = at-zeros2 .before in
     let at-call = at-if1 .before .before .before .before in
-    let at-loop-test = at-call .before .before in
-    let at-loop = at-loop-test .before in
+    let at-zeros = at-call .before .before in
+    let at-test = at-zeros .before in
+    let at-loop = at-test .before in
     let pre = at-loop .before .before .before .before .pre in
-    passed-more _ _ _ _ _ _ _ _ _ _ _ _ (at-loop .loop .inv) (pre .0) (pre .1) (at-loop-test .loop-test .taken) _ _
-    (at-call .take-counters .ensures) (at-if1 .if1 .left) _ _ (at-call2 .take-counters2 .ensures) (c .if2 .left)
+    passed-more _ _ _ _ _ _ _ _ _ _ _ _ (at-loop .loop .inv) (pre .0) (pre .1) (at-test .loop-test .taken)
+    _ (at-zeros .sent-zeros .ensures) _ _ (at-call .take-counters .ensures) (at-if1 .if1 .left)
+    _ (at-zeros2 .received-zeros .ensures) _ _ (at-call2 .take-counters2 .ensures) (c .if2 .left)
 
 same-length-5 : tie.Need-same-length-5 Inv-loop μ-loop
 same-length-5 c = passed-sent _ _ _ _ _ _ _ _ _ _ _ _ (c .before .loop .inv)
@@ -108,10 +128,12 @@ take-checkpoints-spec =
     loop-holds
     add-start
     mul-start
+    sent-zeros-requires
     take-counters-requires
     same-length
     same-length-2
     returns
+    received-zeros-requires
     take-counters-requires-2
     same-length-3
     same-length-4

@@ -5,18 +5,18 @@ use native.Mathlib.Omega.{arith}
 use borrow.Author.Needs.{needs}
 use Rattle.varint.proofs.Reading.{read-next}
 use Rattle.book.proofs.Rows.{column-within}
-use Rattle.reader.proofs.CounterTurns.{Sofar, sofar-begun, sofar-length, sofar-short, sofar-refused, sofar-more, sofar-ended}
+use Rattle.reader.proofs.CounterLoop.{Sofar, sofar-begun, sofar-length, sofar-short, sofar-refused, sofar-more, sofar-ended}
 use Rattle.reader.proofs.take_counters.Statement.{statement}
 use Rattle.reader.proofs.take_counters.Tie as tie
 
 abbrev Inv-loop : tie.InvT-loop
-Inv-loop s at oldest n j table₀ start next₀ k₀ table next k = Sofar oldest n j start table₀ s at next k table
+Inv-loop s at oldest zeros n j table₀ start next₀ k₀ table next k = Sofar oldest zeros n j start table₀ s at next k table
 
 abbrev μ-loop : tie.MeasureT-loop
-μ-loop s at oldest n j table₀ start next₀ k₀ table next k = n - 1 - k
+μ-loop s at oldest zeros n j table₀ start next₀ k₀ table next k = n - 1 - k
 
 loop-holds : tie.Need-loop-holds Inv-loop μ-loop
-loop-holds c = sofar-begun _ _ _ _ _ _ _ (c .before .before .pre)
+loop-holds c = sofar-begun _ _ _ _ _ _ _ _ (c .before .before .pre)
 
 sub-loop : tie.Need-sub-loop Inv-loop μ-loop
 sub-loop c = omega arith
@@ -33,12 +33,12 @@ enum-told c = search needs
 same-length : tie.Need-same-length Inv-loop μ-loop
 same-length c =
     let at-loop = c .before .before .before .before in
-    sofar-length _ _ _ _ _ _ _ (at-loop .before .before .before .pre) _ _ _ (at-loop .loop .inv)
+    sofar-length _ _ _ _ _ _ _ _ (at-loop .before .before .before .pre) _ _ _ (at-loop .loop .inv)
 
 returns : tie.Need-returns Inv-loop μ-loop
 returns c =
     let at-loop = c .before .before .before .before in
-    sofar-short _ _ _ _ _ _ _ (at-loop .before .before .before .pre) _ _ _ (at-loop .loop .inv) (c .before .before .before .loop-test .taken) _
+    sofar-short _ _ _ _ _ _ _ _ (at-loop .before .before .before .pre) _ _ _ (at-loop .loop .inv) (c .before .before .before .loop-test .taken) _
     (sym (c .before .before .read-short .ensures) ∙ c .enum-told .given .1)
 
 partner-column-requires : tie.Need-partner-column-requires Inv-loop μ-loop
@@ -57,7 +57,7 @@ add-c c = omega (arith, within c)
 entry-before-requires : tie.Need-entry-before-requires Inv-loop μ-loop
 entry-before-requires c κs =
     let at-loop = c .before .before .before .before .before .before .before in
-    let long = sofar-length _ _ _ _ _ _ _ (at-loop .before .before .before .pre) _ _ _ (at-loop .loop .inv) in
+    let long = sofar-length _ _ _ _ _ _ _ _ (at-loop .before .before .before .pre) _ _ _ (at-loop .loop .inv) in
     (omega (arith, within (c .before), long), λ e. omega (arith, at-loop .before .before .before .pre .later e))
 
 counter-question-requires : tie.Need-counter-question-requires Inv-loop μ-loop
@@ -66,7 +66,7 @@ counter-question-requires c κs = search needs
 same-length-2 : tie.Need-same-length-2 Inv-loop μ-loop
 same-length-2 c =
     let at-loop = c .before .before .before .before .before .before .before .before .before .before in
-    sofar-length _ _ _ _ _ _ _ (at-loop .before .before .before .pre) _ _ _ (at-loop .loop .inv)
+    sofar-length _ _ _ _ _ _ _ _ (at-loop .before .before .before .pre) _ _ _ (at-loop .loop .inv)
 
 returns-2 : tie.Need-returns-2 Inv-loop μ-loop
 returns-2 c =
@@ -74,7 +74,7 @@ returns-2 c =
     let at-v = at-column .before .before in
     let at-loop-test = at-v .before .before .before in
     let at-loop = at-loop-test .before in
-    sofar-refused _ _ _ _ _ _ _ (at-loop .before .before .before .pre) _ _ _ (at-loop .loop .inv) (at-loop-test .loop-test .taken) _ _ _ _ _
+    sofar-refused _ _ _ _ _ _ _ _ (at-loop .before .before .before .pre) _ _ _ (at-loop .loop .inv) (at-loop-test .loop-test .taken) _ _ _ _ _
     (sym (at-v .before .before .read-short .ensures) ∙ at-v .v .given .1) (at-column .partner-column .ensures) (c .before .before .entry-before .ensures)
     (c .before .counter-question .ensures) _ (c .if1 .taken)
 
@@ -89,7 +89,7 @@ mul-table c = omega (arith, within (c .before .before .before .before))
 slice-write-table : tie.Need-slice-write-table Inv-loop μ-loop
 slice-write-table c =
     let at-loop = c .before .before .before .before .before .before .before .before .before .before in
-    let long = sofar-length _ _ _ _ _ _ _ (at-loop .before .before .before .pre) _ _ _ (at-loop .loop .inv) in
+    let long = sofar-length _ _ _ _ _ _ _ _ (at-loop .before .before .before .pre) _ _ _ (at-loop .loop .inv) in
     omega (arith, within (c .before .before .before .before), long)
 
 add-k : tie.Need-add-k Inv-loop μ-loop
@@ -104,15 +104,15 @@ loop-again c =
     let at-v = at-column .before .before in
     let at-loop-test = at-v .before .before .before in
     let at-loop = at-loop-test .before in
-    sofar-more _ _ _ _ _ _ _ (at-loop .before .before .before .pre) _ _ _ (at-loop .loop .inv) (at-loop-test .loop-test .taken) _ _ _ _ _
+    sofar-more _ _ _ _ _ _ _ _ (at-loop .before .before .before .pre) _ _ _ (at-loop .loop .inv) (at-loop-test .loop-test .taken) _ _ _ _ _
     (sym (at-v .before .before .read-short .ensures) ∙ at-v .v .given .1) (at-column .partner-column .ensures) (c .before .before .entry-before .ensures)
     (c .before .counter-question .ensures) (c .if1 .left)
 
 same-length-3 : tie.Need-same-length-3 Inv-loop μ-loop
-same-length-3 c = sofar-length _ _ _ _ _ _ _ (c .before .before .before .before .pre) _ _ _ (c .before .loop .inv)
+same-length-3 c = sofar-length _ _ _ _ _ _ _ _ (c .before .before .before .before .pre) _ _ _ (c .before .loop .inv)
 
 returns-3 : tie.Need-returns-3 Inv-loop μ-loop
-returns-3 c = sofar-ended _ _ _ _ _ _ _ (c .before .before .before .before .pre) _ _ _ (c .before .loop .inv) (c .loop-test .left)
+returns-3 c = sofar-ended _ _ _ _ _ _ _ _ (c .before .before .before .before .pre) _ _ _ (c .before .loop .inv) (c .loop-test .left)
 
 pub take-counters-spec : {M : Type 1} → statement M
 take-counters-spec =

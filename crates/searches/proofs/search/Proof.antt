@@ -2,6 +2,7 @@
 use mathlib.Core.Path.{_≡_, _∙_}
 use borrow.Author.Needs.{needs}
 use lib.ListN.{length}
+use Rattle.book.specs.Lent.{lent}
 use Rattle.searches.specs.Search.{searchQuestion}
 use Rattle.searches.proofs.Answers.{tables-refuse, tables-pass, search-refused, searched-leader, set-among, search-accepted}
 use Rattle.searches.proofs.search.Statement.{statement}
@@ -14,11 +15,11 @@ counts-long c = search needs
 passes :
     (c : tie.Else2)
     → let a = c .before .before .before .before .before .before .args in
-    searchQuestion (a .shape) (a .sent .now) (a .received .now) (a .initiator) (a .purpose) ≡ 0
+    searchQuestion (lent (a .shape) (a .sent .now) (a .received .now)) (a .initiator) (a .purpose) ≡ 0
 passes c =
     let q = c .before .before .before in
     let a = q .before .before .before .args in
-    tables-pass (a .shape) (a .sent .now) (a .received .now) (a .initiator) (a .purpose) _ _ (q .question .ensures)
+    tables-pass (lent (a .shape) (a .sent .now) (a .received .now)) (a .initiator) (a .purpose) _ _ (q .question .ensures)
     (c .before .before .if1 .left)
     (c .before .begin-question .ensures)
     ∙ c .if2 .left
@@ -34,8 +35,8 @@ returns c =
     let q = c .before .before in
     let a = q .before .before .before .args in
     let r = c .no-search .result in
-    search-refused (a .shape) (a .sent .now) (a .received .now) (a .initiator) (a .purpose) (q .question .result)
-    (tables-refuse (a .shape) (a .sent .now) (a .received .now) (a .initiator) (a .purpose) _ (q .question .ensures) (c .before .if1 .taken))
+    search-refused (lent (a .shape) (a .sent .now) (a .received .now)) (a .initiator) (a .purpose) (q .question .result)
+    (tables-refuse (lent (a .shape) (a .sent .now) (a .received .now)) (a .initiator) (a .purpose) _ (q .question .ensures) (c .before .if1 .taken))
     (c .before .if1 .taken)
     (r .answer)
     (r .set)
@@ -56,8 +57,8 @@ returns-2 c =
     let q = b .before .before in
     let a = q .before .before .before .args in
     let r = c .no-search2 .result in
-    search-refused (a .shape) (a .sent .now) (a .received .now) (a .initiator) (a .purpose) (b .begin-question .result)
-    (tables-pass (a .shape) (a .sent .now) (a .received .now) (a .initiator) (a .purpose) _ _ (q .question .ensures) (b .before .if1 .left) (b .begin-question .ensures))
+    search-refused (lent (a .shape) (a .sent .now) (a .received .now)) (a .initiator) (a .purpose) (b .begin-question .result)
+    (tables-pass (lent (a .shape) (a .sent .now) (a .received .now)) (a .initiator) (a .purpose) _ _ (q .question .ensures) (b .before .if1 .left) (b .begin-question .ensures))
     (c .before .if2 .taken)
     (r .answer)
     (r .set)
@@ -73,7 +74,7 @@ stands-requires : tie.Need-stands-requires
 stands-requires c κs =
     let b = c .before .before .before .before .before .before .before in
     let a = b .args in
-    searched-leader (a .shape) (a .sent .now) (a .received .now) (a .initiator) (a .purpose) (counts-long b) (passes (c .before))
+    searched-leader (lent (a .shape) (a .sent .now) (a .received .now)) (a .initiator) (a .purpose) (counts-long b) (passes (c .before))
     (c .start-and-finish .result)
     (c .start-and-finish .ensures)
 
@@ -82,7 +83,7 @@ newer-requires c κs =
     let f = c .before in
     let b = f .before .before .before .before .before .before .before in
     let a = b .args in
-    set-among (a .shape) (a .sent .now) (a .received .now) (a .initiator) (a .purpose) (counts-long b) (passes (f .before))
+    set-among (lent (a .shape) (a .sent .now) (a .received .now)) (a .initiator) (a .purpose) (counts-long b) (passes (f .before))
     (f .start-and-finish .result)
     (c .stands .result)
     (f .start-and-finish .ensures)
@@ -94,7 +95,7 @@ returns-3 c =
     let f = n .before .before in
     let b = f .before .before .before .before .before .before .before in
     let a = b .args in
-    search-accepted (a .shape) (a .sent .now) (a .received .now) (a .initiator) (a .purpose) (counts-long b) (passes (f .before))
+    search-accepted (lent (a .shape) (a .sent .now) (a .received .now)) (a .initiator) (a .purpose) (counts-long b) (passes (f .before))
     (f .start-and-finish .result)
     (n .before .stands .result)
     (f .start-and-finish .ensures)

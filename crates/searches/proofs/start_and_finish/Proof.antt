@@ -2,6 +2,7 @@
 use mathlib.Core.Path.{_≡_}
 use borrow.Author.Needs.{needs}
 use lib.ListN.{length}
+use Rattle.book.specs.Lent.{lent}
 use Rattle.searches.proofs.Finishing.{starts-inside, started-inside, finished-inside}
 use Rattle.searches.proofs.start_and_finish.Statement.{statement}
 use Rattle.searches.proofs.start_and_finish.Tie as tie
@@ -20,7 +21,7 @@ take-start-requires c κs =
     let i = c .before in
     let b = i .before .before .before in
     let a = b .args in
-    starts-inside (a .shape) (a .sent .now) (a .received .now) (a .initiator) (a .purpose) (i .strands-inside .result)
+    starts-inside (lent (a .shape) (a .sent .now) (a .received .now)) (a .initiator) (a .purpose) (i .strands-inside .result)
     (i .strands-inside .ensures) (counts-long b) (b .pre)
 
 slice-aggregate-finish : tie.Need-slice-aggregate-finish
@@ -32,7 +33,7 @@ finish-requires c κs =
     let i = s .before .before in
     let b = i .before .before .before in
     let a = b .args in
-    started-inside (a .shape) (a .sent .now) (a .received .now) (a .initiator) (a .purpose) (i .strands-inside .result)
+    started-inside (lent (a .shape) (a .sent .now) (a .received .now)) (a .initiator) (a .purpose) (i .strands-inside .result)
     (s .take-start .result) (s .take-start .last .1 .1 .1 .1 .1 .0) (i .strands-inside .ensures) (s .take-start .ensures .0)
     (s .take-start .ensures .1)
     (counts-long b)
@@ -44,7 +45,7 @@ returns c =
     let i = s .before .before in
     let b = i .before .before .before in
     let a = b .args in
-    finished-inside (a .shape) (a .sent .now) (a .received .now) (a .initiator) (a .purpose) (i .strands-inside .result)
+    finished-inside (lent (a .shape) (a .sent .now) (a .received .now)) (a .initiator) (a .purpose) (i .strands-inside .result)
     (s .take-start .result) (s .take-start .last .1 .1 .1 .1 .1 .0) (i .strands-inside .ensures) (s .take-start .ensures .0)
     (s .take-start .ensures .1)
     (c .before .finish .result)

@@ -1,5 +1,6 @@
 -- `start_and_take` meets its contract.
 use borrow.Author.Needs.{needs}
+use Rattle.book.specs.Lent.{lent}
 use Rattle.searches.specs.Run.{asProcesses}
 use Rattle.searches.proofs.Finishing.{taken-inside}
 use Rattle.searches.proofs.start_and_take.Statement.{statement}
@@ -25,7 +26,7 @@ returns c =
     let s = c .before .before .before .before in
     let i = s .before .before in
     let a = i .before .before .before .before .args in
-    taken-inside (a .shape) (a .sent .now) (a .received .now) (a .initiator) (a .purpose) (i .strands-inside .result)
+    taken-inside (lent (a .shape) (a .sent .now) (a .received .now)) (a .initiator) (a .purpose) (i .strands-inside .result)
     (s .start .result .session) (s .start .last .1 .1 .1 .1 .1 .0) (i .strands-inside .ensures) (s .start .ensures .1 .0)
     (s .start .ensures .1 .1)
     (asProcesses (a .list .now))

@@ -4,6 +4,7 @@ use Prim.Native.Nat.{_-_}
 use native.Mathlib.Omega.{arith}
 use borrow.Author.Needs.{needs}
 use lib.ListN.{length}
+use Rattle.book.specs.Lent.{lent}
 use Rattle.session.specs.Turns.{Ongoing}
 use Rattle.searches.proofs.Running.{Taken, taken-none, turn-taken, taken-all}
 use Rattle.searches.proofs.take_turns.Statement.{statement}
@@ -12,7 +13,7 @@ use Rattle.searches.proofs.take_turns.Tie as tie
 abbrev Inv-loop : tie.InvT-loop
 Inv-loop shape sent received list strands₀ next₀ i₀ strands next i =
     (length strands ≡ length strands₀)
-    × Taken shape sent received (record { session = next₀; strands = strands₀ }) (record { session = next; strands = strands }) list i
+    × Taken (lent shape sent received) (record { session = next₀; strands = strands₀ }) (record { session = next; strands = strands }) list i
 
 abbrev μ-loop : tie.MeasureT-loop
 μ-loop shape sent received list strands₀ next₀ i₀ strands next i = length list - i
@@ -20,7 +21,7 @@ abbrev μ-loop : tie.MeasureT-loop
 loop-holds : tie.Need-loop-holds Inv-loop μ-loop
 loop-holds c =
     let a = c .before .before .before .before .args in
-    (refl, taken-none (a .shape) (a .sent .now) (a .received .now) (record { session = a .session; strands = a .strands .now }) (a .list .now))
+    (refl, taken-none (lent (a .shape) (a .sent .now) (a .received .now)) (record { session = a .session; strands = a .strands .now }) (a .list .now))
 
 mul-p : tie.Need-mul-p Inv-loop μ-loop
 mul-p c = search needs
@@ -45,7 +46,7 @@ loop-again c =
     let l = t .before .before .before .before in
     let a = l .before .before .before .before .before .args in (
       t .turn .kept .1 .1 .1 .1 .1 .0 ∙ l .loop .inv .0,
-      turn-taken (a .shape) (a .sent .now) (a .received .now) (record { session = a .session; strands = a .strands .now })
+      turn-taken (lent (a .shape) (a .sent .now) (a .received .now)) (record { session = a .session; strands = a .strands .now })
           (record { session = l .loop .next; strands = l .loop .strands }) (a .list .now) (l .loop .i) (l .loop .inv .1) _
           (t .turn .result .session) (t .turn .last .1 .1 .1 .1 .1 .0) (t .before .before .before .loop-test .taken) refl (t .turn .ensures .1 .0)
           (t .turn .ensures .1 .1),
@@ -58,7 +59,7 @@ returns : tie.Need-returns Inv-loop μ-loop
 returns c =
     let l = c .before in
     let a = l .before .before .before .before .before .args in
-    let all = sym (taken-all (a .shape) (a .sent .now) (a .received .now) (record { session = a .session; strands = a .strands .now })
+    let all = sym (taken-all (lent (a .shape) (a .sent .now) (a .received .now)) (record { session = a .session; strands = a .strands .now })
     (record { session = l .loop .next; strands = l .loop .strands }) (a .list .now) (l .loop .i) (l .loop .inv .1) (c .loop-test .left)) in
     (ap (λ (o : Ongoing). o .session) all, ap (λ (o : Ongoing). o .strands) all)
 

@@ -1,7 +1,7 @@
 -- `absent_holds` meets its contract.
 use mathlib.Core.Path.{refl}
 use borrow.Author.Needs.{needs}
-use Rattle.session_check.proofs.Chains.{told-no, told-yes}
+use Rattle.lists.proofs.Tests.{told-no, told-yes}
 use Rattle.session_check.proofs.Absent.{something-waits, not-absent, nothing-there}
 use Rattle.session_check.proofs.absent_holds.Statement.{statement}
 use Rattle.session_check.proofs.absent_holds.Tie as tie

@@ -1,31 +1,25 @@
 -- `initiator_fits` meets its contract.
-use mathlib.Core.Path.{_≡_}
 use native.Mathlib.Omega.{arith}
-use borrow.Author.Needs.{needs}
-use lib.ListN.{length}
-use Rattle.session_check.proofs.Machines.{given-to, other-initiator, other-purpose, initiator-on}
+use Rattle.book.specs.Lent.{lent}
+use Rattle.session_check.proofs.Machines.{other-initiator, other-purpose, initiator-on}
 use Rattle.session_check.proofs.initiator_fits.Statement.{statement}
 use Rattle.session_check.proofs.initiator_fits.Tie as tie
 
-counts-long : (c : tie.Start) → length (c .args .rows .shape .counts) ≡ 16
-counts-long c = search needs
-
 returns : tie.Need-returns
-returns c = let a = c .before .before .before .before .before .before .args in other-initiator (a .rows .shape) (a .sent .now) (a .received .now) (a .initiator .0) (a .purpose) (a .machine) (c .if1 .taken)
+returns c = let a = c .before .before .before .before .before .before .args in other-initiator (lent (a .rows .shape) (a .sent .now) (a .received .now)) (a .initiator .0) (a .purpose) (a .machine) (c .if1 .taken)
 
 returns-2 : tie.Need-returns-2
-returns-2 c = let a = c .before .before .before .before .before .before .before .before .args in other-purpose (a .rows .shape) (a .sent .now) (a .received .now) (a .initiator .0) (a .purpose) (a .machine) (c .before .before .if1 .left) (c .if2 .taken)
+returns-2 c = let a = c .before .before .before .before .before .before .before .before .args in other-purpose (lent (a .rows .shape) (a .sent .now) (a .received .now)) (a .initiator .0) (a .purpose) (a .machine) (c .before .before .if1 .left) (c .if2 .taken)
 
 fits-requires : tie.Need-fits-requires
 fits-requires c κs =
     let s = c .before .before .before .before .before .before .before .before in
-    let a = s .args in
-    given-to (a .rows) (a .sent .now) (a .received .now) (a .machine .me .0) (counts-long s) (s .pre .0) (omega (arith, c .before .before .if1 .left, s .pre .1))
+    (s .pre .0, (omega (arith, c .before .before .if1 .left, s .pre .1)))
 
 returns-3 : tie.Need-returns-3
 returns-3 c =
     let a = c .before .before .before .before .before .before .before .before .before .args in
-    initiator-on (a .rows .shape) (a .sent .now) (a .received .now) (a .initiator .0) (a .purpose) (a .machine) (c .before .before .before .if1 .left) (c .before .if2 .left) (c .fits2 .ensures)
+    initiator-on (lent (a .rows .shape) (a .sent .now) (a .received .now)) (a .initiator .0) (a .purpose) (a .machine) (c .before .before .before .if1 .left) (c .before .if2 .left) (c .fits2 .ensures)
 
 pub initiator-fits-spec : {M : Type 1} → statement M
 initiator-fits-spec =

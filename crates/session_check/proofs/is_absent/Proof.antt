@@ -4,7 +4,7 @@ use borrow.Author.Needs.{needs}
 use Rattle.matrix.specs.Matrix.{asRow}
 use Rattle.matrix.specs.Entries.{same}
 use Rattle.session.specs.Fits.{isBefore, isAbsent}
-use Rattle.session_check.proofs.Chains.{told-no, told-yes}
+use Rattle.lists.proofs.Tests.{told-no, told-yes}
 use Rattle.session_check.proofs.Absent.{zero-row, zero-same, left1, left2, left3, left4, left5, left6, left7, absent-is, past-zero, not-zero, past-test, no-test}
 use Rattle.session_check.proofs.is_absent.Statement.{statement}
 use Rattle.session_check.proofs.is_absent.Tie as tie

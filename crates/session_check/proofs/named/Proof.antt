@@ -1,6 +1,6 @@
 -- `named` meets its contract.
 use borrow.Author.Needs.{needs}
-use Rattle.session_check.proofs.Chains.{told-no, told-yes}
+use Rattle.lists.proofs.Tests.{told-no, told-yes}
 use Rattle.session_check.proofs.Naming.{initiator-unnamed, machine-unnamed, named-rest}
 use Rattle.session_check.proofs.named.Statement.{statement}
 use Rattle.session_check.proofs.named.Tie as tie

@@ -1,6 +1,6 @@
 -- `purposes` meets its contract.
 use borrow.Author.Needs.{needs}
-use Rattle.session_check.proofs.Chains.{told-no, told-yes}
+use Rattle.lists.proofs.Tests.{told-no, told-yes}
 use Rattle.session_check.proofs.Naming.{session-no-purpose, machine-no-purpose, purposes-rest}
 use Rattle.session_check.proofs.purposes.Statement.{statement}
 use Rattle.session_check.proofs.purposes.Tie as tie

@@ -1,5 +1,6 @@
 -- `begin` meets its contract.
 use borrow.Author.Needs.{needs}
+use Rattle.book.specs.Lent.{lent}
 use Rattle.session_steps.proofs.Steps.{begun-is}
 use Rattle.session_steps.proofs.begin.Statement.{statement}
 use Rattle.session_steps.proofs.begin.Tie as tie
@@ -14,7 +15,7 @@ returns : tie.Need-returns
 returns c =
     let a = c .before .before .before .before .before .before .before .args in
     let next = c .before .before .before .first-step in
-    begun-is (a .rows .shape) (a .sent .now) (a .received .now) (a .initiator) (a .purpose) (next .result) (c .first-places .result) (next .ensures)
+    begun-is (lent (a .rows .shape) (a .sent .now) (a .received .now)) (a .initiator) (a .purpose) (next .result) (c .first-places .result) (next .ensures)
     (c .first-places .ensures)
 
 pub begin-spec : {M : Type 1} → statement M

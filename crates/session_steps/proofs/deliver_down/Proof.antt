@@ -3,10 +3,12 @@ use mathlib.Core.Path.{_≡_}
 use native.Mathlib.Omega.{arith}
 use lib.ListN.{length, getD, length-map}
 use borrow.Author.Needs.{needs}
+use Rattle.book.specs.Lent.{lent}
+use Rattle.line_theory.proofs.Accepted.{rows-few}
 use Rattle.participant.specs.Calls.{noParticipant}
 use Rattle.session.specs.Workers.{participantAt}
-use Rattle.session_steps.proofs.Places.{at-place}
-use Rattle.session_steps.proofs.Steps.{beyond, given-down, down-is}
+use Rattle.lists.proofs.Over.{at-place}
+use Rattle.session_steps.proofs.Steps.{beyond, names-down, down-is}
 use Rattle.session_steps.proofs.deliver_down.Statement.{statement}
 use Rattle.session_steps.proofs.deliver_down.Tie as tie
 
@@ -26,17 +28,15 @@ array-copy-out-p : tie.Need-array-copy-out-p
 array-copy-out-p c = search needs
 
 read-message-requires : tie.Need-read-message-requires
-read-message-requires c κs = search needs
+read-message-requires c κs = omega (arith, rows-few)
 
 step-requires : tie.Need-step-requires
 step-requires c κs =
     let at = c .before .before .before .before .before .before .before .before .before .before .before .before in
     let a = at .args in
     let pre = at .pre in
-    given-down (a .rows) (a .sent .now) (a .received .now) (a .k) (a .session .initiator .0) _ (participantAt (a .session) (a .k)) (taken at) (pre .1 .0)
-    (pre .1 .1 .0)
-    (pre .0)
-    (pre .1 .1 .1 .0)
+    let names = names-down (a .rows) (a .k) (a .session .initiator .0) _ (participantAt (a .session) (a .k)) (taken at) (pre .1 .0) (pre .1 .1 .0) (pre .0 .1) (pre .1 .1 .1 .0) in
+    ((pre .0 .0, names .0), names .1)
 
 mul-participants : tie.Need-mul-participants
 mul-participants c =
@@ -65,7 +65,7 @@ returns c =
     let a = at .args in
     let next = c .before .before .before .before .before .step in
     let read = c .before .before .before .before .before .before .before .read-message in
-    down-is (a .rows .shape) (a .sent .now) (a .received .now) (a .session) (a .k) (a .s .now) _ (read .result .message) (next .result)
+    down-is (lent (a .rows .shape) (a .sent .now) (a .received .now)) (a .session) (a .k) (a .s .now) _ (read .result .message) (next .result)
     (c .before .before .delivered-on .result)
     (c .on-strand .result)
     (taken at)

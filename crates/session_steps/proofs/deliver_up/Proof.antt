@@ -1,14 +1,13 @@
 -- `deliver_up` meets its contract.
-use mathlib.Core.Path.{sym, subst}
-use Prim.Native.Nat.{ℕ}
-use borrow.Author.Needs.{needs}
-use Rattle.machine.specs.Given.{Given}
+use native.Mathlib.Omega.{arith}
+use Rattle.book.specs.Lent.{lent}
+use Rattle.line_theory.proofs.Accepted.{rows-few}
 use Rattle.session_steps.proofs.Steps.{report-sender, up-is}
 use Rattle.session_steps.proofs.deliver_up.Statement.{statement}
 use Rattle.session_steps.proofs.deliver_up.Tie as tie
 
 read-message-requires : tie.Need-read-message-requires
-read-message-requires c κs = search needs
+read-message-requires c κs = omega (arith, rows-few)
 
 step-requires : tie.Need-step-requires
 step-requires c κs =
@@ -16,9 +15,9 @@ step-requires c κs =
     let a = at .args in
     let pre = at .pre in
     let read = c .before .read-message in (
-      subst (λ (j : ℕ). Given (a .rows) (a .sent .now) (a .received .now) j) (sym (pre .1 .0)) (pre .0),
+      (pre .0 .0, rw (pre .1 .0) (pre .0 .1)),
       (
-        report-sender (a .rows .shape .n) (a .session .machine) (a .s .now) (read .result .message) (pre .0 .in-sent .most) (pre .1 .1 .0)
+        report-sender (a .rows .shape .n) (a .session .machine) (a .s .now) (read .result .message) (rows-few (pre .0 .0)) (pre .1 .1 .0)
             (read .ensures .1),
         pre .1 .1 .1 .0,
       ),
@@ -34,7 +33,7 @@ returns c =
     let a = at .args in
     let next = c .before .before .before .step in
     let read = c .before .before .before .before .before .read-message in
-    up-is (a .rows .shape) (a .sent .now) (a .received .now) (a .session) (a .k) (a .s .now) (read .result .message) (next .result) (c .delivered-on .result)
+    up-is (lent (a .rows .shape) (a .sent .now) (a .received .now)) (a .session) (a .k) (a .s .now) (read .result .message) (next .result) (c .delivered-on .result)
     (at .pre .1 .0)
     (read .ensures .1)
     (next .ensures)

@@ -4,13 +4,16 @@ use mathlib.Core.List.{[]}
 use Prim.Native.Nat.{_-_}
 use native.Mathlib.Omega.{arith}
 use borrow.Author.Needs.{needs}
+use Rattle.book.specs.Lent.{lent}
+use Rattle.lists.proofs.Filling.{Filled, filled-none, filled-more, filled-all}
+use Rattle.participant.specs.Calls.{noParticipant}
 use Rattle.session.specs.Steps.{placeAtStart}
-use Rattle.session_steps.proofs.Places.{Placed, placed-none, placed-more, placed-all}
 use Rattle.session_steps.proofs.first_places.Statement.{statement}
 use Rattle.session_steps.proofs.first_places.Tie as tie
 
 abbrev Inv-loop : tie.InvT-loop
-Inv-loop shape initiator purpose places₀ k₀ places k = Placed (placeAtStart shape [] [] initiator purpose) places k
+Inv-loop shape initiator purpose places₀ k₀ places k =
+    Filled noParticipant places₀ 16 (placeAtStart (lent shape [] []) initiator purpose) places k
 
 abbrev μ-loop : tie.MeasureT-loop
 μ-loop shape initiator purpose places₀ k₀ places k = 16 - k
@@ -19,9 +22,7 @@ no-participant-requires : tie.Need-no-participant-requires Inv-loop μ-loop
 no-participant-requires c κs = search needs
 
 loop-holds : tie.Need-loop-holds Inv-loop μ-loop
-loop-holds c =
-    let a = c .before .args in
-    placed-none (placeAtStart (a .shape) [] [] (a .initiator) (a .purpose)) _ refl
+loop-holds c = filled-none (omega arith)
 
 first-place-requires : tie.Need-first-place-requires Inv-loop μ-loop
 first-place-requires c κs = omega arith
@@ -39,18 +40,10 @@ loop-less : tie.Need-loop-less Inv-loop μ-loop
 loop-less c = search needs
 
 loop-again : tie.Need-loop-again Inv-loop μ-loop
-loop-again c =
-    let a = c .before .before .before .before .args in
-    let at-loop = c .before .before .loop in
-    placed-more (placeAtStart (a .shape) [] [] (a .initiator) (a .purpose)) (at-loop .places) (at-loop .k) (c .first-place .result) (at-loop .inv)
-    (c .before .loop-test .taken)
-    (c .first-place .ensures)
+loop-again c = filled-more (c .before .before .loop .inv) (c .before .loop-test .taken) (c .first-place .ensures)
 
 returns : tie.Need-returns Inv-loop μ-loop
-returns c =
-    let a = c .before .before .before .args in
-    let at-loop = c .before .loop in
-    placed-all (placeAtStart (a .shape) [] [] (a .initiator) (a .purpose)) (at-loop .places) (at-loop .k) (at-loop .inv) (c .loop-test .left)
+returns c = filled-all (c .before .loop .inv) refl (c .loop-test .left)
 
 pub first-places-spec : {M : Type 1} → statement M
 first-places-spec =

@@ -4,20 +4,21 @@ use mathlib.Core.Bool.{false}
 use Prim.Native.Nat.{_+_, _-_}
 use native.Mathlib.Omega.{arith}
 use borrow.Author.Needs.{needs}
+use Rattle.book.specs.Bounds.{mostProcesses}
 use Rattle.words.specs.Words.{word}
 use Rattle.words.specs.Initiator.{flagIn, flagsAt}
-use Rattle.words.proofs.Filling.{Filled, filled-none, filled-more, filled-all}
+use Rattle.lists.proofs.Filling.{Filled, filled-none, filled-more, filled-all}
 use Rattle.state_words.proofs.flags_at.Statement.{statement}
 use Rattle.state_words.proofs.flags_at.Tie as tie
 
 abbrev Inv-loop : tie.InvT-loop
-Inv-loop words at flags₀ i₀ flags i = Filled false 16 (λ k. flagIn (word words (at + k))) flags i
+Inv-loop words at flags₀ i₀ flags i = Filled false flags₀ mostProcesses (λ k. flagIn (word words (at + k))) flags i
 
 abbrev μ-loop : tie.MeasureT-loop
-μ-loop words at flags₀ i₀ flags i = 16 - i
+μ-loop words at flags₀ i₀ flags i = mostProcesses - i
 
 loop-holds : tie.Need-loop-holds Inv-loop μ-loop
-loop-holds c = filled-none refl
+loop-holds c = filled-none (omega arith)
 
 add-flags : tie.Need-add-flags Inv-loop μ-loop
 add-flags c = omega arith
@@ -39,12 +40,12 @@ loop-less c = search needs
 
 loop-again : tie.Need-loop-again Inv-loop μ-loop
 loop-again c =
-    let turn = c .before in
-    filled-more (turn .before .loop .inv) (turn .loop-test .taken) _ refl
+    let pass = c .before in
+    filled-more (pass .before .loop .inv) (pass .loop-test .taken) refl
 
 returns : tie.Need-returns Inv-loop μ-loop
 unfolding flagsAt
-returns c = filled-all (c .before .loop .inv) (c .loop-test .left)
+returns c = filled-all (c .before .loop .inv) refl (c .loop-test .left)
 
 pub flags-at-spec : {M : Type 1} → statement M
 flags-at-spec =

@@ -64,17 +64,17 @@ shared-slice-read-number-2 c = search needs
 number-requires-2 : tie.Need-number-requires-2
 number-requires-2 c κs = search needs
 
-add-low : tie.Need-add-low
-add-low c = search needs
+add-tally-in : tie.Need-add-tally-in
+add-tally-in c = search needs
 
-mul-low : tie.Need-mul-low
-mul-low c = search needs
+mul-tally-in : tie.Need-mul-tally-in
+mul-tally-in c = search needs
 
-shared-slice-read-low : tie.Need-shared-slice-read-low
-shared-slice-read-low c = search needs
+shared-slice-read-tally-in : tie.Need-shared-slice-read-tally-in
+shared-slice-read-tally-in c = search needs
 
-low-requires : tie.Need-low-requires
-low-requires c κs = search needs
+tally-in-requires : tie.Need-tally-in-requires
+tally-in-requires c κs = search needs
 
 returns : tie.Need-returns
 unfolding initiatorFrom
@@ -83,7 +83,7 @@ returns c =
     let first = second .before .before .before .before in
     let copy = first .before .before in
     let matrix = copy .before in
-    rw (c .low .ensures, second .number2 .ensures, first .number .ensures, copy .matrix-at2 .ensures, matrix .matrix-at .ensures, matrix .before .flags-at .ensures)
+    rw (c .tally-in .ensures, second .number2 .ensures, first .number .ensures, copy .matrix-at2 .ensures, matrix .matrix-at .ensures, matrix .before .flags-at .ensures)
 
 pub initiator-at-spec : {M : Type 1} → statement M
 initiator-at-spec =
@@ -109,8 +109,8 @@ initiator-at-spec =
     mul-number-2
     shared-slice-read-number-2
     number-requires-2
-    add-low
-    mul-low
-    shared-slice-read-low
-    low-requires
+    add-tally-in
+    mul-tally-in
+    shared-slice-read-tally-in
+    tally-in-requires
     returns)

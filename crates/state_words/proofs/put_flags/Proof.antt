@@ -2,6 +2,7 @@
 use Prim.Native.Nat.{_-_}
 use native.Mathlib.Omega.{arith}
 use borrow.Author.Needs.{needs}
+use Rattle.book.specs.Bounds.{mostProcesses}
 use Rattle.machine.specs.Flags.{flag}
 use Rattle.words.specs.Initiator.{flagWord}
 use Rattle.words.proofs.Storing.{Stored, stored-none, stored-more, stored-all}
@@ -9,10 +10,10 @@ use Rattle.state_words.proofs.put_flags.Statement.{statement}
 use Rattle.state_words.proofs.put_flags.Tie as tie
 
 abbrev Inv-loop : tie.InvT-loop
-Inv-loop words₀ at flags i₀ words i = Stored 16 (λ p. flagWord (flag flags p)) words₀ at words i
+Inv-loop words₀ at flags i₀ words i = Stored mostProcesses (λ p. flagWord (flag flags p)) words₀ at words i
 
 abbrev μ-loop : tie.MeasureT-loop
-μ-loop words₀ at flags i₀ words i = 16 - i
+μ-loop words₀ at flags i₀ words i = mostProcesses - i
 
 loop-holds : tie.Need-loop-holds Inv-loop μ-loop
 loop-holds c = stored-none
@@ -40,8 +41,8 @@ loop-less c = search needs
 
 loop-again : tie.Need-loop-again Inv-loop μ-loop
 loop-again c =
-    let turn = c .before in
-    stored-more (turn .before .loop .inv) (turn .loop-test .taken) _ (c .flag-word .ensures)
+    let pass = c .before in
+    stored-more (pass .before .loop .inv) (pass .loop-test .taken) _ (c .flag-word .ensures)
 
 same-length : tie.Need-same-length Inv-loop μ-loop
 same-length c = c .before .loop .inv .same

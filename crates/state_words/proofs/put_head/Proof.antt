@@ -3,6 +3,7 @@ use mathlib.Core.Path.{refl, sym, ap, _∙_}
 use Prim.Native.Nat.{_-_}
 use native.Mathlib.Omega.{arith}
 use borrow.Author.Needs.{needs}
+use lib.ListN.{length}
 use lib.Seq.{sets}
 use Rattle.lists.proofs.Over.{tab-is}
 use Rattle.words.specs.Words.{word}
@@ -11,10 +12,10 @@ use Rattle.state_words.proofs.put_head.Statement.{statement}
 use Rattle.state_words.proofs.put_head.Tie as tie
 
 abbrev Inv-loop : tie.InvT-loop
-Inv-loop words₀ at head i₀ words i = Stored 6 (word head) words₀ at words i
+Inv-loop head words₀ at i₀ words i = Stored (length head) (word head) words₀ at words i
 
 abbrev μ-loop : tie.MeasureT-loop
-μ-loop words₀ at head i₀ words i = 6 - i
+μ-loop head words₀ at i₀ words i = length head - i
 
 loop-holds : tie.Need-loop-holds Inv-loop μ-loop
 loop-holds c = stored-none
@@ -22,8 +23,8 @@ loop-holds c = stored-none
 mul-words : tie.Need-mul-words Inv-loop μ-loop
 mul-words c = omega arith
 
-array-read-words : tie.Need-array-read-words Inv-loop μ-loop
-array-read-words c = omega arith
+shared-slice-read-words : tie.Need-shared-slice-read-words Inv-loop μ-loop
+shared-slice-read-words c = omega arith
 
 add-words : tie.Need-add-words Inv-loop μ-loop
 add-words c = omega arith
@@ -42,8 +43,8 @@ loop-less c = search needs
 
 loop-again : tie.Need-loop-again Inv-loop μ-loop
 loop-again c =
-    let turn = c in
-    stored-more (turn .before .loop .inv) (turn .loop-test .taken) _ refl
+    let pass = c .before in
+    stored-more (pass .before .loop .inv) (pass .loop-test .taken) _ refl
 
 same-length : tie.Need-same-length Inv-loop μ-loop
 same-length c = c .before .loop .inv .same
@@ -51,8 +52,9 @@ same-length c = c .before .loop .inv .same
 returns : tie.Need-returns Inv-loop μ-loop
 returns c =
     let a = c .before .before .args in
+    let head = a .head .now in
     stored-all (c .before .loop .inv) (c .loop-test .left)
-    ∙ ap (sets (a .words .now) (a .at)) (sym (tab-is 0 6 (word (a .t1)) (a .t1) (omega arith) (λ i h. refl)))
+    ∙ ap (sets (a .words .now) (a .at)) (sym (tab-is 0 (length head) (word head) head refl (λ i h. refl)))
 
 pub put-head-spec : {M : Type 1} → statement M
 put-head-spec =
@@ -62,7 +64,7 @@ put-head-spec =
     μ-loop
     loop-holds
     mul-words
-    array-read-words
+    shared-slice-read-words
     add-words
     mul-words-2
     slice-write-words

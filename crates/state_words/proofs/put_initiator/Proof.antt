@@ -1,12 +1,13 @@
 -- `put_initiator` meets its contract.
-use mathlib.Core.Path.{refl}
-use mathlib.Core.List.{List, [], _∷_, _++_}
-use Prim.Native.Nat.{ℕ, _+_}
+use mathlib.Core.Path.{_≡_, refl}
+use mathlib.Core.List.{_++_}
+use Prim.Native.Nat.{_+_}
 use native.Mathlib.Omega.{arith}
 use borrow.Author.Needs.{needs}
+use lib.Seq.{sets}
 use Rattle.lists.proofs.Over.{length-tab}
-use Rattle.words.specs.Initiator.{flagWords, initiatorWords}
-use Rattle.words.specs.Words.{countWords}
+use Rattle.words.specs.Initiator.{awaitedAt, matrixAt, flagWords, initiatorHead, initiatorWords}
+use Rattle.words.specs.Words.{matrixLength, countWords}
 use Rattle.words.proofs.Storing.{sets-then}
 use Rattle.state_words.proofs.put_initiator.Statement.{statement}
 use Rattle.state_words.proofs.put_initiator.Tie as tie
@@ -23,8 +24,11 @@ flag-word-requires c κs = search needs
 of-number-requires-3 : tie.Need-of-number-requires-3
 of-number-requires-3 c κs = search needs
 
-wide-requires : tie.Need-wide-requires
-wide-requires c κs = search needs
+of-tally-requires : tie.Need-of-tally-requires
+of-tally-requires c κs = search needs
+
+slice-aggregate-put-head : tie.Need-slice-aggregate-put-head
+slice-aggregate-put-head c = search needs
 
 put-head-requires : tie.Need-put-head-requires
 put-head-requires c κs = search needs
@@ -57,23 +61,21 @@ returns c =
     let matrix = copy .before .before .before .before in
     let flags = matrix .before .before .before .before in
     let head = flags .before .before .before .before in
-    let rounds = head .before .before in
+    let rounds = head .before .before .before in
     let candidate = rounds .before in
     let ended = candidate .before in
     let me = ended .before in
     let n = me .before in
     let a = n .before .before .before .before .before .before .before .args in
-    let first : List ℕ =
-    n .of-number .result
-    ∷ (me .of-number2 .result
-    ∷ (a .state .purpose ∷ (ended .flag-word .result ∷ (candidate .of-number3 .result ∷ (rounds .wide .result ∷ []))))) in
+    let first : head .put-head .last .1 .0 ≡ sets (a .words .now) (a .at) (initiatorHead (a .state))
+    = rw (n .of-number .ensures, me .of-number2 .ensures, ended .flag-word .ensures, candidate .of-number3 .ensures, rounds .of-tally .ensures) at
+    (head .put-head .ensures) in
     let second = flagWords (a .state .awaited) in
-    let third = countWords 256 (a .state .matrix) in
-    let fourth = countWords 256 (a .state .copy) in
-    rw (n .of-number .ensures, me .of-number2 .ensures, ended .flag-word .ensures, candidate .of-number3 .ensures, rounds .wide .ensures) at
-    (sets-then first (second ++ (third ++ fourth)) (a .words .now) (a .at) (head .put-head .ensures) refl
-    (sets-then second (third ++ fourth) (head .put-head .last .1 .0) (a .at + 6) (flags .put-flags .ensures) (simp length-tab (omega arith))
-    (sets-then third fourth (flags .put-flags .last .1 .0) (a .at + 22) (matrix .put-matrix .ensures) (simp length-tab (omega arith)) (copy .put-matrix2 .ensures))))
+    let third = countWords matrixLength (a .state .matrix) in
+    let fourth = countWords matrixLength (a .state .copy) in
+    sets-then (initiatorHead (a .state)) (second ++ (third ++ fourth)) (a .words .now) (a .at) first refl
+    (sets-then second (third ++ fourth) (head .put-head .last .1 .0) (a .at + awaitedAt) (flags .put-flags .ensures) (simp length-tab (omega arith))
+    (sets-then third fourth (flags .put-flags .last .1 .0) (a .at + matrixAt) (matrix .put-matrix .ensures) (simp length-tab (omega arith)) (copy .put-matrix2 .ensures)))
 
 pub put-initiator-spec : {M : Type 1} → statement M
 put-initiator-spec =
@@ -83,7 +85,8 @@ put-initiator-spec =
     of-number-requires-2
     flag-word-requires
     of-number-requires-3
-    wide-requires
+    of-tally-requires
+    slice-aggregate-put-head
     put-head-requires
     add-put-flags
     put-flags-requires

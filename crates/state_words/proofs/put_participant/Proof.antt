@@ -1,11 +1,13 @@
 -- `put_participant` meets its contract.
-use mathlib.Core.Path.{refl}
-use mathlib.Core.List.{List, [], _∷_, _++_}
-use Prim.Native.Nat.{ℕ, _+_}
+use mathlib.Core.Path.{_≡_, refl}
+use mathlib.Core.List.{_++_}
+use Prim.Native.Nat.{_+_}
 use native.Mathlib.Omega.{arith}
 use borrow.Author.Needs.{needs}
+use lib.Seq.{sets}
+use Rattle.book.specs.Bounds.{mostProcesses}
 use Rattle.lists.proofs.Over.{length-tab}
-use Rattle.words.specs.Participant.{participantWords}
+use Rattle.words.specs.Participant.{rowAt, participantHead, participantWords}
 use Rattle.words.specs.Words.{countWords}
 use Rattle.words.proofs.Storing.{sets-then}
 use Rattle.state_words.proofs.put_participant.Statement.{statement}
@@ -25,6 +27,9 @@ stage-word-requires c κs = search needs
 
 of-number-requires-4 : tie.Need-of-number-requires-4
 of-number-requires-4 c κs = search needs
+
+slice-aggregate-put-head : tie.Need-slice-aggregate-put-head
+slice-aggregate-put-head c = search needs
 
 put-head-requires : tie.Need-put-head-requires
 put-head-requires c κs = search needs
@@ -50,21 +55,19 @@ returns c =
     let column = c .before .before in
     let row = column .before .before .before .before in
     let head = row .before .before .before .before in
-    let candidate = head .before .before in
+    let candidate = head .before .before .before in
     let stage = candidate .before in
     let initiator = stage .before in
     let me = initiator .before in
     let n = me .before in
     let a = n .before .before .before .before .before .before .before .args in
-    let first : List ℕ =
-    n .of-number .result
-    ∷ (me .of-number2 .result
-    ∷ (initiator .of-number3 .result ∷ (a .state .purpose ∷ (stage .stage-word .result ∷ (candidate .of-number4 .result ∷ []))))) in
-    let second = countWords 16 (a .state .row) in
-    let third = countWords 16 (a .state .column) in
-    rw (n .of-number .ensures, me .of-number2 .ensures, initiator .of-number3 .ensures, stage .stage-word .ensures, candidate .of-number4 .ensures) at
-    (sets-then first (second ++ third) (a .words .now) (a .at) (head .put-head .ensures) refl
-    (sets-then second third (head .put-head .last .1 .0) (a .at + 6) (row .put-row .ensures) (simp length-tab (omega arith)) (column .put-row2 .ensures)))
+    let first : head .put-head .last .1 .0 ≡ sets (a .words .now) (a .at) (participantHead (a .state))
+    = rw (n .of-number .ensures, me .of-number2 .ensures, initiator .of-number3 .ensures, stage .stage-word .ensures, candidate .of-number4 .ensures) at
+    (head .put-head .ensures) in
+    let second = countWords mostProcesses (a .state .row) in
+    let third = countWords mostProcesses (a .state .column) in
+    sets-then (participantHead (a .state)) (second ++ third) (a .words .now) (a .at) first refl
+    (sets-then second third (head .put-head .last .1 .0) (a .at + rowAt) (row .put-row .ensures) (simp length-tab (omega arith)) (column .put-row2 .ensures))
 
 pub put-participant-spec : {M : Type 1} → statement M
 put-participant-spec =
@@ -75,6 +78,7 @@ put-participant-spec =
     of-number-requires-3
     stage-word-requires
     of-number-requires-4
+    slice-aggregate-put-head
     put-head-requires
     add-put-row
     put-row-requires

@@ -1,29 +1,26 @@
 -- `have_room` meets its contract. The invariant: the messages so far have room.
-use mathlib.Core.Path.{sym, _∙_}
-use mathlib.Core.Bool.{Bool}
-use Prim.Native.Nat.{ℕ, _-_}
+use mathlib.Core.Path.{_≡_}
+use mathlib.Core.Bool.{true}
+use Prim.Native.Nat.{_-_}
 use native.Mathlib.Omega.{arith}
 use borrow.Author.Needs.{needs}
-use borrow.Author.Tests.{not-true, not-false}
 use lib.ListN.{length}
-use Rattle.lists.proofs.Over.{all-not}
-use Rattle.matrix.proofs.Before.{Before, before-none, before-more, before-all}
+use Rattle.lists.proofs.Tests.{told-no, told-yes}
+use Rattle.lists.proofs.Before.{Before, before-none, before-more, all-pass, one-fails}
 use Rattle.strands.specs.Strands.{haveRoom}
 use Rattle.strands.proofs.Slots.{roomFor}
 use Rattle.strands.proofs.have_room.Statement.{statement}
 use Rattle.strands.proofs.have_room.Tie as tie
 
 abbrev Inv-loop : tie.InvT-loop
-Inv-loop outgoing n initiator strands k₀ k = Before (roomFor n initiator outgoing (length strands)) k
+Inv-loop outgoing n initiator strands k₀ k =
+    Before 16 (λ p. roomFor n initiator outgoing (length strands) p ≡ true) k
 
 abbrev μ-loop : tie.MeasureT-loop
 μ-loop outgoing n initiator strands k₀ k = 16 - k
 
-abbrev room : tie.Start Inv-loop μ-loop → ℕ → Bool
-room c = let a = c .args in roomFor (a .n) (a .initiator) (a .outgoing) (length (a .strands .now))
-
 loop-holds : tie.Need-loop-holds Inv-loop μ-loop
-loop-holds c = before-none (room (c .before))
+loop-holds c = before-none
 
 has-room-requires : tie.Need-has-room-requires Inv-loop μ-loop
 has-room-requires c κs = search needs
@@ -31,10 +28,7 @@ has-room-requires c κs = search needs
 returns : tie.Need-returns Inv-loop μ-loop
 unfolding haveRoom
 returns c =
-    let l = c .before .before .before in
-    let f = room (l .before .before) in
-    let told = c .before .has-room in
-    sym (all-not 16 f (l .loop .k) (c .before .before .loop-test .taken) (sym (told .ensures) ∙ not-true (told .result) (c .if1 .taken)))
+    one-fails (c .before .before .before .loop .inv) (c .before .before .loop-test .taken) (told-no (c .before .has-room .ensures) (c .if1 .taken))
 
 add-k : tie.Need-add-k Inv-loop μ-loop
 add-k c = omega arith
@@ -44,16 +38,11 @@ loop-less c = search needs
 
 loop-again : tie.Need-loop-again Inv-loop μ-loop
 loop-again c =
-    let l = c .before .before .before in
-    let told = c .before .has-room in
-    before-more (room (l .before .before)) (l .loop .k) (l .loop .inv) (c .before .before .loop-test .taken)
-    (sym (told .ensures) ∙ not-false (told .result) (c .if1 .left))
+    before-more (c .before .before .before .loop .inv) (c .before .before .loop-test .taken) (told-yes (c .before .has-room .ensures) (c .if1 .left))
 
 returns-2 : tie.Need-returns-2 Inv-loop μ-loop
 unfolding haveRoom
-returns-2 c =
-    let l = c .before in
-    sym (before-all (room (l .before .before)) (l .loop .k) (l .loop .inv) (c .loop-test .left))
+returns-2 c = all-pass (c .before .loop .inv) (c .loop-test .left)
 
 pub have-room-spec : {M : Type 1} → statement M
 have-room-spec =

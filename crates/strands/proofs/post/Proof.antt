@@ -5,13 +5,14 @@ use mathlib.Core.List.{List}
 use Prim.Native.Nat.{ℕ, _+_, _-_}
 use native.Mathlib.Omega.{arith}
 use borrow.Author.Needs.{needs}
+use lib.ListN.{replicate}
 use Rattle.strands.proofs.Posting.{Posted, posted-none, posted-room, posted-more, posted-all, waits-new, waits-still}
 use Rattle.strands.proofs.post.Statement.{statement}
 use Rattle.strands.proofs.post.Tie as tie
 
 abbrev Inv-loop : tie.InvT-loop
 Inv-loop outgoing n initiator strands₀ lengths to next₀ k₀ strands next k =
-    Posted n initiator outgoing lengths strands₀ k strands next
+    Posted n initiator outgoing lengths strands₀ next₀ k strands next
 
 abbrev μ-loop : tie.MeasureT-loop
 μ-loop outgoing n initiator strands₀ lengths to next₀ k₀ strands next k = 16 - k
@@ -19,7 +20,7 @@ abbrev μ-loop : tie.MeasureT-loop
 loop-holds : tie.Need-loop-holds Inv-loop μ-loop
 loop-holds c =
     let a = c .before .before .args in
-    posted-none (a .n) (a .initiator) (a .outgoing) (a .t4) (a .strands .now) _ refl
+    posted-none (a .n) (a .initiator) (a .outgoing) (a .t4) (a .strands .now) (omega arith)
 
 post-to-requires : tie.Need-post-to-requires Inv-loop μ-loop
 post-to-requires c κs =
@@ -59,13 +60,13 @@ loop-less c = search needs
 loop-again : tie.Need-loop-again Inv-loop μ-loop
 loop-again c =
     let put = c .before .before .before in
-    let turn = put .before .before in
-    let l = turn .before .loop in
-    let a = turn .before .before .before .before .args in
+    let pass = put .before .before in
+    let l = pass .before .loop in
+    let a = pass .before .before .before .before .args in
     let stored = put .post-to .ensures in
     let P : List ℕ → Type 0 =
-    Posted (a .n) (a .initiator) (a .outgoing) (a .t4) (a .strands .now) (l .k + 1) (put .post-to .last .1 .1 .1 .1 .0) in
-    let more = posted-more (a .n) (a .initiator) (a .outgoing) (a .t4) (a .strands .now) (l .inv) (turn .loop-test .taken) (stored .1) in
+    Posted (a .n) (a .initiator) (a .outgoing) (a .t4) (a .strands .now) (replicate 16 0) (l .k + 1) (put .post-to .last .1 .1 .1 .1 .0) in
+    let more = posted-more (a .n) (a .initiator) (a .outgoing) (a .t4) (a .strands .now) (l .inv) (pass .loop-test .taken) (stored .1) in
     ⊎-elim
     (λ t. subst P (sym (t .1)) (more _ (waits-new (a .outgoing) (a .t4) (l .k) (t .0 .taken) (stored .0))))
     (λ t. subst P (sym (t .1)) (more _ (waits-still (a .outgoing) (a .t4) (l .k) (t .0 .left))))
@@ -78,7 +79,7 @@ returns : tie.Need-returns Inv-loop μ-loop
 returns c =
     let l = c .before in
     let a = l .before .before .before .args in
-    posted-all (a .n) (a .initiator) (a .outgoing) (a .t4) (a .strands .now) (l .loop .inv) (c .loop-test .left)
+    posted-all (a .n) (a .initiator) (a .outgoing) (a .t4) (a .strands .now) (l .loop .inv) refl (c .loop-test .left)
 
 pub post-spec : {M : Type 1} → statement M
 post-spec =

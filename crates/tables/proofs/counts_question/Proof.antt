@@ -5,7 +5,7 @@ use native.Mathlib.Omega.{arith}
 use borrow.Author.Needs.{needs}
 use lib.ListN.{length, take}
 use Rattle.book.specs.Check.{countsQuestion}
-use Rattle.tables.proofs.CountTurns.{Counted, counted-low, counted-high, counted-more, counted-end}
+use Rattle.tables.proofs.CountLoop.{Counted, counted-low, counted-high, counted-more, counted-end}
 use Rattle.tables.proofs.counts_question.Statement.{statement}
 use Rattle.tables.proofs.counts_question.Tie as tie
 

@@ -3,7 +3,7 @@ use Prim.Native.Nat.{_-_, _*_}
 use native.Mathlib.Omega.{arith}
 use lib.ListN.{drop}
 use Rattle.book.specs.Questions.{allZero, unusedOf}
-use Rattle.tables.proofs.UnusedTurns.{Clear, clear-none, own-fails, absent-fails, clear-more, clear-end}
+use Rattle.tables.proofs.UnusedLoop.{Clear, clear-none, own-fails, absent-fails, clear-more, clear-end}
 use Rattle.tables.proofs.process_unused_zero.Statement.{statement}
 use Rattle.tables.proofs.process_unused_zero.Tie as tie
 

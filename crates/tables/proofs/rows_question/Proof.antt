@@ -8,7 +8,7 @@ use Rattle.book.specs.Bounds.{mark}
 use Rattle.book.specs.Tables.{processesOf}
 use Rattle.book.specs.Check.{rowsQuestion}
 use Rattle.book.proofs.Fits.{rows-fit}
-use Rattle.tables.proofs.BookTurns.{Walked, walked-none, walked-fails, walked-more, walked-end}
+use Rattle.tables.proofs.BookLoop.{Walked, walked-none, walked-fails, walked-more, walked-end}
 use Rattle.tables.proofs.rows_question.Statement.{statement}
 use Rattle.tables.proofs.rows_question.Tie as tie
 

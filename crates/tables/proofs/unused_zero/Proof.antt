@@ -6,7 +6,7 @@ use borrow.Author.Needs.{needs}
 use lib.ListN.{length, take}
 use Rattle.book.specs.Questions.{allZero, unusedFrom}
 use Rattle.book.proofs.Fits.{rows-fit, first-inside}
-use Rattle.tables.proofs.UnusedTurns.{Cleared, cleared-none, cleared-fails, cleared-more, cleared-end}
+use Rattle.tables.proofs.UnusedLoop.{Cleared, cleared-none, cleared-fails, cleared-more, cleared-end}
 use Rattle.tables.proofs.unused_zero.Statement.{statement}
 use Rattle.tables.proofs.unused_zero.Tie as tie
 

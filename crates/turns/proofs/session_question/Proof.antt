@@ -5,6 +5,7 @@ use mathlib.Core.Bool.{true, _&&_}
 use Prim.Native.Nat.{_≤_}
 use native.Mathlib.Omega.{arith}
 use borrow.Author.Tests.{not-true, not-false}
+use Rattle.book.specs.Lent.{lent}
 use Rattle.lists.proofs.Tests.{both-and, and-first, and-second}
 use Rattle.machine.specs.Named.{participantNamed}
 use Rattle.machine.proofs.Answers.{first-no, second-no, third-no, all-yes}
@@ -39,7 +40,7 @@ returns c =
     let a = c .before .before .before .before .before .before .before .args in
     let told = c .before .participant-named in
     first-no 10 11 13 (participantNamed (a .rows .shape .n) (a .p .0) (a .session .initiator .0) && sessionNamed (a .rows .shape .n) (a .session)) (sessionPurposes (a .session))
-    (sessionFits (a .rows .shape) (a .sent .now) (a .received .now) (a .session) (a .strands .now))
+    (sessionFits (lent (a .rows .shape) (a .sent .now) (a .received .now)) (a .session) (a .strands .now))
     (omega arith)
     (and-first (participantNamed (a .rows .shape .n) (a .p .0) (a .session .initiator .0)) (sessionNamed (a .rows .shape .n) (a .session)) (sym (told .ensures) ∙ not-true (told .result) (c .if1 .taken)))
 
@@ -51,7 +52,7 @@ returns-2 c =
     let a = c .before .before .before .before .before .before .before .before .before .args in
     let told = c .before .named in
     first-no 10 11 13 (participantNamed (a .rows .shape .n) (a .p .0) (a .session .initiator .0) && sessionNamed (a .rows .shape .n) (a .session)) (sessionPurposes (a .session))
-    (sessionFits (a .rows .shape) (a .sent .now) (a .received .now) (a .session) (a .strands .now))
+    (sessionFits (lent (a .rows .shape) (a .sent .now) (a .received .now)) (a .session) (a .strands .now))
     (omega arith)
     (and-second (participantNamed (a .rows .shape .n) (a .p .0) (a .session .initiator .0)) (sessionNamed (a .rows .shape .n) (a .session)) (sym (told .ensures) ∙ not-true (told .result) (c .if2 .taken)))
 
@@ -63,7 +64,7 @@ returns-3 c =
     let a = c .before .before .before .before .before .before .before .before .before .before .before .args in
     let told = c .before .purposes in
     second-no 10 11 13 (participantNamed (a .rows .shape .n) (a .p .0) (a .session .initiator .0) && sessionNamed (a .rows .shape .n) (a .session)) (sessionPurposes (a .session))
-    (sessionFits (a .rows .shape) (a .sent .now) (a .received .now) (a .session) (a .strands .now))
+    (sessionFits (lent (a .rows .shape) (a .sent .now) (a .received .now)) (a .session) (a .strands .now))
     (names (c .before .before))
     (omega arith)
     (sym (told .ensures) ∙ not-true (told .result) (c .if3 .taken))
@@ -76,7 +77,7 @@ returns-4 c =
     let a = c .before .before .before .before .before .before .before .before .before .before .before .before .before .args in
     let told = c .before .fits2 in
     third-no 10 11 13 (participantNamed (a .rows .shape .n) (a .p .0) (a .session .initiator .0) && sessionNamed (a .rows .shape .n) (a .session)) (sessionPurposes (a .session))
-    (sessionFits (a .rows .shape) (a .sent .now) (a .received .now) (a .session) (a .strands .now))
+    (sessionFits (lent (a .rows .shape) (a .sent .now) (a .received .now)) (a .session) (a .strands .now))
     (names (c .before .before .before .before))
     (right (c .before .before))
     (sym (told .ensures) ∙ not-true (told .result) (c .if4 .taken))
@@ -86,7 +87,7 @@ returns-5 c =
     let a = c .before .before .before .before .before .before .before .before .before .before .before .before .before .args in
     let told = c .before .fits2 in
     all-yes 10 11 13 (participantNamed (a .rows .shape .n) (a .p .0) (a .session .initiator .0) && sessionNamed (a .rows .shape .n) (a .session)) (sessionPurposes (a .session))
-    (sessionFits (a .rows .shape) (a .sent .now) (a .received .now) (a .session) (a .strands .now))
+    (sessionFits (lent (a .rows .shape) (a .sent .now) (a .received .now)) (a .session) (a .strands .now))
     (names (c .before .before .before .before))
     (right (c .before .before))
     (sym (told .ensures) ∙ not-false (told .result) (c .if4 .left))

@@ -3,19 +3,20 @@ use mathlib.Core.Path.{refl}
 use Prim.Native.Nat.{_+_, _-_}
 use native.Mathlib.Omega.{arith}
 use borrow.Author.Needs.{needs}
+use Rattle.book.specs.Bounds.{mostProcesses}
 use Rattle.words.specs.Words.{word}
-use Rattle.words.proofs.Filling.{Filled, filled-none, filled-more, filled-all}
+use Rattle.lists.proofs.Filling.{Filled, filled-none, filled-more, filled-all}
 use Rattle.words.proofs.numbers_at.Statement.{statement}
 use Rattle.words.proofs.numbers_at.Tie as tie
 
 abbrev Inv-loop : tie.InvT-loop
-Inv-loop words at numbers₀ i₀ numbers i = Filled 0 16 (λ k. word words (at + k)) numbers i
+Inv-loop words at numbers₀ i₀ numbers i = Filled 0 numbers₀ mostProcesses (λ k. word words (at + k)) numbers i
 
 abbrev μ-loop : tie.MeasureT-loop
-μ-loop words at numbers₀ i₀ numbers i = 16 - i
+μ-loop words at numbers₀ i₀ numbers i = mostProcesses - i
 
 loop-holds : tie.Need-loop-holds Inv-loop μ-loop
-loop-holds c = filled-none refl
+loop-holds c = filled-none (omega arith)
 
 add-number : tie.Need-add-number Inv-loop μ-loop
 add-number c = omega arith
@@ -43,11 +44,11 @@ loop-less c = search needs
 
 loop-again : tie.Need-loop-again Inv-loop μ-loop
 loop-again c =
-    let turn = c .before .before in
-    filled-more (turn .before .loop .inv) (turn .loop-test .taken) _ (c .number .ensures)
+    let pass = c .before .before in
+    filled-more (pass .before .loop .inv) (pass .loop-test .taken) (c .number .ensures)
 
 returns : tie.Need-returns Inv-loop μ-loop
-returns c = filled-all (c .before .loop .inv) (c .loop-test .left)
+returns c = filled-all (c .before .loop .inv) refl (c .loop-test .left)
 
 pub numbers-at-spec : {M : Type 1} → statement M
 numbers-at-spec =

@@ -3,15 +3,16 @@ use Prim.Native.Nat.{_-_}
 use native.Mathlib.Omega.{arith}
 use borrow.Author.Needs.{needs}
 use Rattle.consistency.specs.Known.{counters}
+use Rattle.words.specs.Words.{matrixLength}
 use Rattle.words.proofs.Storing.{Stored, stored-none, stored-more, stored-all}
 use Rattle.words.proofs.put_matrix.Statement.{statement}
 use Rattle.words.proofs.put_matrix.Tie as tie
 
 abbrev Inv-loop : tie.InvT-loop
-Inv-loop words₀ at entries i₀ words i = Stored 256 (counters entries) words₀ at words i
+Inv-loop words₀ at entries i₀ words i = Stored matrixLength (counters entries) words₀ at words i
 
 abbrev μ-loop : tie.MeasureT-loop
-μ-loop words₀ at entries i₀ words i = 256 - i
+μ-loop words₀ at entries i₀ words i = matrixLength - i
 
 loop-holds : tie.Need-loop-holds Inv-loop μ-loop
 loop-holds c = stored-none
@@ -42,8 +43,8 @@ loop-less c = search needs
 
 loop-again : tie.Need-loop-again Inv-loop μ-loop
 loop-again c =
-    let turn = c .before .before in
-    stored-more (turn .before .loop .inv) (turn .loop-test .taken) _ (c .wide .ensures)
+    let pass = c .before .before in
+    stored-more (pass .before .loop .inv) (pass .loop-test .taken) _ (c .wide .ensures)
 
 same-length : tie.Need-same-length Inv-loop μ-loop
 same-length c = c .before .loop .inv .same

@@ -3,15 +3,16 @@ use Prim.Native.Nat.{_-_}
 use native.Mathlib.Omega.{arith}
 use borrow.Author.Needs.{needs}
 use lib.ListN.{getD}
+use Rattle.book.specs.Bounds.{mostProcesses}
 use Rattle.words.proofs.Storing.{Stored, stored-none, stored-more, stored-all}
 use Rattle.words.proofs.put_numbers.Statement.{statement}
 use Rattle.words.proofs.put_numbers.Tie as tie
 
 abbrev Inv-loop : tie.InvT-loop
-Inv-loop words₀ at numbers i₀ words i = Stored 16 (λ k. getD numbers k 0) words₀ at words i
+Inv-loop words₀ at numbers i₀ words i = Stored mostProcesses (λ k. getD numbers k 0) words₀ at words i
 
 abbrev μ-loop : tie.MeasureT-loop
-μ-loop words₀ at numbers i₀ words i = 16 - i
+μ-loop words₀ at numbers i₀ words i = mostProcesses - i
 
 loop-holds : tie.Need-loop-holds Inv-loop μ-loop
 loop-holds c = stored-none
@@ -42,8 +43,8 @@ loop-less c = search needs
 
 loop-again : tie.Need-loop-again Inv-loop μ-loop
 loop-again c =
-    let turn = c .before in
-    stored-more (turn .before .loop .inv) (turn .loop-test .taken) _ (c .of-number .ensures)
+    let pass = c .before in
+    stored-more (pass .before .loop .inv) (pass .loop-test .taken) _ (c .of-number .ensures)
 
 same-length : tie.Need-same-length Inv-loop μ-loop
 same-length c = c .before .loop .inv .same

@@ -4,6 +4,7 @@ use native.Mathlib.Omega.{arith}
 use borrow.Author.Needs.{needs}
 use lib.ListN.{length-append}
 use Rattle.lists.proofs.Over.{length-tab}
+use Rattle.words.specs.Words.{orderBeforeAt}
 use Rattle.words.specs.Plain.{setWords, numberWords, orderWords}
 use Rattle.words.proofs.Storing.{sets-then, sets-all}
 use Rattle.words.proofs.put_order.Statement.{statement}
@@ -34,7 +35,7 @@ returns c =
     let after = numberWords (a .order .after) in
     sets-all (from ++ (before ++ after)) (a .words .now) (simp (length-append, length-tab) (omega (arith, start .pre)))
     (sets-then from (before ++ after) (a .words .now) 0 (first .put-set .ensures) (simp length-tab)
-    (sets-then before after (first .put-set .last .1 .0) 16 (second .put-numbers .ensures) (simp length-tab) (last .put-numbers2 .ensures)))
+    (sets-then before after (first .put-set .last .1 .0) orderBeforeAt (second .put-numbers .ensures) (simp length-tab) (last .put-numbers2 .ensures)))
 
 pub put-order-spec : {M : Type 1} → statement M
 put-order-spec =

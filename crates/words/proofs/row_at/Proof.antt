@@ -1,35 +1,36 @@
--- `row_at` meets its contract. The invariant: the counters so far are the low bits of the words.
+-- `row_at` meets its contract. The invariant: the counters so far are those in the words.
 use mathlib.Core.Path.{refl, ap}
 use Prim.Native.Nat.{_+_, _-_}
 use native.Mathlib.Omega.{arith}
 use borrow.Author.Needs.{needs}
 use Rattle.book.specs.declared.Count.{Count}
-use Rattle.words.specs.Words.{word, low, countsAt}
-use Rattle.words.proofs.Filling.{Filled, filled-none, filled-more, filled-all}
+use Rattle.book.specs.Bounds.{mostProcesses}
+use Rattle.words.specs.Words.{word, counterIn, countsAt}
+use Rattle.lists.proofs.Filling.{Filled, filled-none, filled-more, filled-all}
 use Rattle.words.proofs.row_at.Statement.{statement}
 use Rattle.words.proofs.row_at.Tie as tie
 
 abbrev Inv-loop : tie.InvT-loop
 Inv-loop words at counts₀ i₀ counts i =
-    Filled {A = Count} (record { 0 = 0 }) 16 (λ k. record { 0 = low (word words (at + k)) }) counts i
+    Filled {A = Count} (record { 0 = 0 }) counts₀ mostProcesses (λ k. record { 0 = counterIn (word words (at + k)) }) counts i
 
 abbrev μ-loop : tie.MeasureT-loop
-μ-loop words at counts₀ i₀ counts i = 16 - i
+μ-loop words at counts₀ i₀ counts i = mostProcesses - i
 
 loop-holds : tie.Need-loop-holds Inv-loop μ-loop
-loop-holds c = filled-none refl
+loop-holds c = filled-none (omega arith)
 
-add-low : tie.Need-add-low Inv-loop μ-loop
-add-low c = omega arith
+add-counter-in : tie.Need-add-counter-in Inv-loop μ-loop
+add-counter-in c = omega arith
 
-mul-low : tie.Need-mul-low Inv-loop μ-loop
-mul-low c = omega arith
+mul-counter-in : tie.Need-mul-counter-in Inv-loop μ-loop
+mul-counter-in c = omega arith
 
-shared-slice-read-low : tie.Need-shared-slice-read-low Inv-loop μ-loop
-shared-slice-read-low c = omega arith
+shared-slice-read-counter-in : tie.Need-shared-slice-read-counter-in Inv-loop μ-loop
+shared-slice-read-counter-in c = omega arith
 
-low-requires : tie.Need-low-requires Inv-loop μ-loop
-low-requires c κs = search needs
+counter-in-requires : tie.Need-counter-in-requires Inv-loop μ-loop
+counter-in-requires c κs = search needs
 
 mul-counts : tie.Need-mul-counts Inv-loop μ-loop
 mul-counts c = omega arith
@@ -45,12 +46,12 @@ loop-less c = search needs
 
 loop-again : tie.Need-loop-again Inv-loop μ-loop
 loop-again c =
-    let turn = c .before .before in
-    filled-more (turn .before .loop .inv) (turn .loop-test .taken) _ (ap {B = Count} (λ v. record { 0 = v }) (c .low .ensures))
+    let pass = c .before .before in
+    filled-more (pass .before .loop .inv) (pass .loop-test .taken) (ap {B = Count} (λ v. record { 0 = v }) (c .counter-in .ensures))
 
 returns : tie.Need-returns Inv-loop μ-loop
 unfolding countsAt
-returns c = filled-all (c .before .loop .inv) (c .loop-test .left)
+returns c = filled-all (c .before .loop .inv) refl (c .loop-test .left)
 
 pub row-at-spec : {M : Type 1} → statement M
 row-at-spec =
@@ -59,10 +60,10 @@ row-at-spec =
     Inv-loop
     μ-loop
     loop-holds
-    add-low
-    mul-low
-    shared-slice-read-low
-    low-requires
+    add-counter-in
+    mul-counter-in
+    shared-slice-read-counter-in
+    counter-in-requires
     mul-counts
     array-set-from-counts
     add-i

@@ -4,21 +4,22 @@ use Prim.Native.Nat.{_-_}
 use native.Mathlib.Omega.{arith}
 use borrow.Author.Needs.{needs}
 use Rattle.book.specs.declared.Checkpoint.{Checkpoint}
+use Rattle.book.specs.Bounds.{mostProcesses}
 use Rattle.finder.specs.Line.{checkpoints}
 use Rattle.words.specs.Words.{word}
 use Rattle.words.specs.Plain.{setIn}
-use Rattle.words.proofs.Filling.{Filled, filled-none, filled-more, filled-all}
+use Rattle.lists.proofs.Filling.{Filled, filled-none, filled-more, filled-all}
 use Rattle.words.proofs.set_in.Statement.{statement}
 use Rattle.words.proofs.set_in.Tie as tie
 
 abbrev Inv-loop : tie.InvT-loop
-Inv-loop words set₀ i₀ set i = Filled {A = Checkpoint} (record { 0 = 0 }) 16 (λ k. record { 0 = word words k }) set i
+Inv-loop words set₀ i₀ set i = Filled {A = Checkpoint} (record { 0 = 0 }) set₀ mostProcesses (λ k. record { 0 = word words k }) set i
 
 abbrev μ-loop : tie.MeasureT-loop
-μ-loop words set₀ i₀ set i = 16 - i
+μ-loop words set₀ i₀ set i = mostProcesses - i
 
 loop-holds : tie.Need-loop-holds Inv-loop μ-loop
-loop-holds c = filled-none refl
+loop-holds c = filled-none (omega arith)
 
 mul-number : tie.Need-mul-number Inv-loop μ-loop
 mul-number c = omega arith
@@ -43,12 +44,12 @@ loop-less c = search needs
 
 loop-again : tie.Need-loop-again Inv-loop μ-loop
 loop-again c =
-    let turn = c .before .before in
-    filled-more (turn .before .loop .inv) (turn .loop-test .taken) _ (ap {B = Checkpoint} (λ v. record { 0 = v }) (c .number .ensures))
+    let pass = c .before .before in
+    filled-more (pass .before .loop .inv) (pass .loop-test .taken) (ap {B = Checkpoint} (λ v. record { 0 = v }) (c .number .ensures))
 
 returns : tie.Need-returns Inv-loop μ-loop
 unfolding setIn checkpoints
-returns c = filled-all (c .before .loop .inv) (c .loop-test .left)
+returns c = filled-all (c .before .loop .inv) refl (c .loop-test .left)
 
 pub set-in-spec : {M : Type 1} → statement M
 set-in-spec =

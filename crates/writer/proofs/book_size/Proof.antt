@@ -4,6 +4,7 @@ use Prim.Native.Nat.{_+_, _-_, _*_, _≤_}
 use native.Mathlib.Omega.{arith}
 use borrow.Author.Needs.{needs}
 use lib.ListN.{length}
+use Rattle.book.specs.Lent.{lent}
 use Rattle.varint.proofs.Encode.{encode-size}
 use Rattle.book.specs.declared.Shape.{Shape}
 use Rattle.book.specs.View.{firstRow}
@@ -21,7 +22,7 @@ Inv-loop sent received n counts size₀ first₀ j₀ size first j =
     (j ≤ n)
     × (size ≤ 10 + 80000 * j)
     × (first ≡ firstRow counts j)
-    × Counted (bytesOf shape sent received) (processesBytes shape j first sent received) size
+    × Counted (bytesOf (lent shape sent received)) (processesBytes shape j first sent received) size
 
 abbrev μ-loop : tie.MeasureT-loop
 μ-loop sent received n counts size₀ first₀ j₀ size first j = n - j

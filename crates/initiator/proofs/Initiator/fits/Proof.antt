@@ -2,15 +2,18 @@
 use mathlib.Core.Path.{sym, _∙_}
 use mathlib.Core.Logic.{⊎-elim}
 use Prim.Native.Nat.{_-_, _≤_}
+use native.Mathlib.Omega.{arith}
 use borrow.Author.Needs.{needs}
 use borrow.Author.Tests.{ltb-true, ltb-false, not-true, not-false}
+use Rattle.book.specs.Lent.{lent}
+use Rattle.line_theory.proofs.Accepted.{rows-few}
 use Rattle.machine.specs.Own.{Own, ownOf}
 use Rattle.initiator.proofs.Fitting.{fits-size, fits-none-below, fits-none-above, fits-no-entries, fits-no-stage, fits-wait}
 use Rattle.initiator.proofs.Initiator.fits.Statement.{statement}
 use Rattle.initiator.proofs.Initiator.fits.Tie as tie
 
 abbrev own : tie.Start → Own
-own c = let a = c .args in ownOf (a .rows .shape) (a .sent .now) (a .received .now) (a .self .me .0 - 1)
+own c = let a = c .args in ownOf (lent (a .rows .shape) (a .sent .now) (a .received .now)) (a .self .me .0 - 1)
 
 sub-place : tie.Need-sub-place
 sub-place c = search needs
@@ -21,10 +24,10 @@ returns c =
     sym (fits-size (own at) (at .args .self) (c .if1 .taken))
 
 mul-if3 : tie.Need-mul-if3
-mul-if3 c = search needs
+mul-if3 c = omega (arith, rows-few)
 
 array-read-if3 : tie.Need-array-read-if3
-array-read-if3 c = search needs
+array-read-if3 c = omega (arith, rows-few)
 
 returns-2 : tie.Need-returns-2
 returns-2 c =

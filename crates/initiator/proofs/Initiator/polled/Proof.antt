@@ -1,16 +1,17 @@
 -- `polled` meets its contract. The invariant: the flags so far are of participants whose column differs.
 use mathlib.Core.Path.{refl, _∙_}
 use mathlib.Core.Logic.{⊎-elim}
+use mathlib.Core.Bool.{false}
 use Prim.Native.Nat.{_-_}
 use native.Mathlib.Omega.{arith}
 use borrow.Author.Needs.{needs}
-use Rattle.machine.proofs.Flags.{Flagged, flagged-none, flagged-more, flagged-all}
+use Rattle.lists.proofs.Filling.{Filled, filled-none, filled-more, filled-all}
 use Rattle.initiator.proofs.Polling.{asked, both-asked, first-fails, asked-all}
 use Rattle.initiator.proofs.Initiator.polled.Statement.{statement}
 use Rattle.initiator.proofs.Initiator.polled.Tie as tie
 
 abbrev Inv-loop : tie.InvT-loop
-Inv-loop n own differ flags₀ p₀ flags p = Flagged (asked n own differ) flags p
+Inv-loop n own differ flags₀ p₀ flags p = Filled false flags₀ 16 (asked n own differ) flags p
 
 abbrev μ-loop : tie.MeasureT-loop
 μ-loop n own differ flags₀ p₀ flags p = 16 - p
@@ -22,7 +23,7 @@ columns-differ-requires : tie.Need-columns-differ-requires Inv-loop μ-loop
 columns-differ-requires c κs = search needs
 
 loop-holds : tie.Need-loop-holds Inv-loop μ-loop
-loop-holds c = flagged-none _ _ refl
+loop-holds c = filled-none (omega arith)
 
 is-participant-requires : tie.Need-is-participant-requires Inv-loop μ-loop
 is-participant-requires c κs = search needs
@@ -42,13 +43,13 @@ loop-less c = search needs
 loop-again : tie.Need-loop-again Inv-loop μ-loop
 loop-again c =
     let called = c .before .is-participant in
-    flagged-more _ _ _ _ (c .before .before .before .loop .inv) (c .before .before .loop-test .taken)
+    filled-more (c .before .before .before .loop .inv) (c .before .before .loop-test .taken)
     (⊎-elim (λ t. both-asked _ _ _ _ (called .ensures) (t .0 .taken) (t .1)) (λ t. first-fails _ _ _ _ (called .ensures) (t .0 .left) (t .1)) (c .if1 .came))
 
 returns : tie.Need-returns Inv-loop μ-loop
 returns c =
     let told = c .before .before .columns-differ in
-    flagged-all _ (c .before .loop .flags) (c .before .loop .p) (c .before .loop .inv) (c .loop-test .left)
+    filled-all (c .before .loop .inv) refl (c .loop-test .left)
     ∙ asked-all (c .before .before .before .before .before .before .args .self) (told .result) (told .ensures)
 
 pub polled-spec : {M : Type 1} → statement M

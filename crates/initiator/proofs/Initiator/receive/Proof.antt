@@ -6,12 +6,14 @@ use native.Mathlib.Omega.{arith}
 use borrow.Author.Needs.{needs}
 use borrow.Author.Tests.{not-true, not-false}
 use lib.ListN.{length}
+use Rattle.book.specs.Lent.{lent}
 use Rattle.book.specs.Check.{tablesQuestion}
+use Rattle.book.specs.Accepted.{AreAccepted}
+use Rattle.book.proofs.Starts.{rows-accepted}
 use Rattle.line_theory.proofs.Accepted.{accepted-size, accepted-few}
 use Rattle.message.specs.Formed.{messageFormed}
 use Rattle.machine.specs.Own.{Own}
 use Rattle.machine.proofs.Answers.{at-first, at-second, at-third, at-room, at-end}
-use Rattle.machine.proofs.Calls.{given-of}
 use Rattle.initiator.specs.declared.InitiatorStep.{InitiatorStep}
 use Rattle.initiator.specs.Fits.{fits}
 use Rattle.initiator.specs.Calls.{ownOfState, stateQuestion, messageQuestion, stepOn}
@@ -23,10 +25,10 @@ use Rattle.initiator.proofs.Initiator.receive.Tie as tie
 -- ---- the questions, and the step
 
 abbrev own : tie.Start → Own
-own c = let a = c .args in ownOfState (a .shape) (a .sent .now) (a .received .now) (a .self)
+own c = let a = c .args in ownOfState (lent (a .shape) (a .sent .now) (a .received .now)) (a .self)
 
 abbrev tables : tie.Start → ℕ
-tables c = let a = c .args in tablesQuestion (a .shape) (a .sent .now) (a .received .now)
+tables c = let a = c .args in tablesQuestion (lent (a .shape) (a .sent .now) (a .received .now))
 
 abbrev of-state : tie.Start → ℕ
 of-state c = let a = c .args in stateQuestion (a .shape .n) (own c) (a .self)
@@ -35,7 +37,7 @@ abbrev of-message : tie.Start → ℕ
 of-message c = let a = c .args in messageQuestion (a .shape .n) (a .self) (a .s .now)
 
 abbrev step : tie.Start → InitiatorStep
-step c = let a = c .args in stepOn (a .shape) (a .sent .now) (a .received .now) (a .self) (a .s .now)
+step c = let a = c .args in stepOn (lent (a .shape) (a .sent .now) (a .received .now)) (a .self) (a .s .now)
 
 counts-long : (c : tie.Start) → length (c .args .shape .counts) ≡ 16
 counts-long c = search needs
@@ -53,18 +55,21 @@ returns c =
     let at = c .before .before .before .before .before .before .before in
     let a = at .args in
     let question = c .before .before .question in
-    answer-received (a .shape) (a .sent .now) (a .received .now) (a .self) (a .s .now) (a .out .now) (step at) (c .refused .result) (a .out .now) refl
+    answer-received (lent (a .shape) (a .sent .now) (a .received .now)) (a .self) (a .s .now) (a .out .now) (step at) (c .refused .result) (a .out .now) refl
     (at-first (tables at) (of-state at) (of-message at) (a .self) (step at .state) (step at .outgoing) (a .out .now) (question .result) (c .refused .result .answer) (c .refused .result .state) (c .refused .result .lengths) (c .before .if1 .taken)
     (c .refused .ensures)
     (question .ensures))
 
-accepted : (c : tie.Else1) → tables (c .before .before .before .before .before .before) ≡ 0
-accepted c = sym (c .before .question .ensures) ∙ c .if1 .left
+accepted : (c : tie.Else1) → let a = c .before .before .before .before .before .before .args in AreAccepted (lent (a .shape) (a .sent .now) (a .received .now))
+accepted c = record {
+  sixteen = counts-long (c .before .before .before .before .before .before);
+  passed = sym (c .before .question .ensures) ∙ c .if1 .left;
+}
 
 -- ---- the state
 
 state-question-requires : tie.Need-state-question-requires
-state-question-requires c κs = search needs
+state-question-requires c κs = accepted c
 
 refused-requires-2 : tie.Need-refused-requires-2
 refused-requires-2 c κs = search needs
@@ -74,19 +79,17 @@ returns-2 c =
     let at = c .before .before .before .before .before .before .before .before .before in
     let a = at .args in
     let question = c .before .before .state-question in
-    answer-received (a .shape) (a .sent .now) (a .received .now) (a .self) (a .s .now) (a .out .now) (step at) (c .refused2 .result) (a .out .now) refl
+    answer-received (lent (a .shape) (a .sent .now) (a .received .now)) (a .self) (a .s .now) (a .out .now) (step at) (c .refused2 .result) (a .out .now) refl
     (at-second (tables at) (of-state at) (of-message at) (a .self) (step at .state) (step at .outgoing) (a .out .now) (question .result) (c .refused2 .result .answer) (c .refused2 .result .state) (c .refused2 .result .lengths) (c .before .if2 .taken)
     (c .refused2 .ensures)
-    (accepted (c .before .before .before))
+    (accepted (c .before .before .before) .passed)
     (question .ensures))
 
 state-passes : (c : tie.Else2) → of-state (c .before .before .before .before .before .before .before .before) ≡ 0
 state-passes c = sym (c .before .state-question .ensures) ∙ c .if2 .left
 
 size : (c : tie.Else2) → let a = c .before .before .before .before .before .before .before .before .args in (1 ≤ a .shape .n) × (a .shape .n ≤ 16)
-size c =
-    let a = c .before .before .before .before .before .before .before .before .args in
-    accepted-size (a .shape) (a .sent .now) (a .received .now) (accepted (c .before .before))
+size c = accepted-size (accepted (c .before .before))
 
 -- ---- the message
 
@@ -102,10 +105,10 @@ returns-3 c =
     let at = passed .before .before .before .before .before .before .before .before in
     let a = at .args in
     let read = c .before .before .before .read-message in
-    answer-received (a .shape) (a .sent .now) (a .received .now) (a .self) (a .s .now) (a .out .now) (step at) (c .refused3 .result) (a .out .now) refl
+    answer-received (lent (a .shape) (a .sent .now) (a .received .now)) (a .self) (a .s .now) (a .out .now) (step at) (c .refused3 .result) (a .out .now) refl
     (at-third (tables at) (of-state at) (of-message at) (a .self) (step at .state) (step at .outgoing) (a .out .now) 14 (c .refused3 .result .answer) (c .refused3 .result .state) (c .refused3 .result .lengths) (λ z. absurd (omega arith))
     (c .refused3 .ensures)
-    (accepted (passed .before .before))
+    (accepted (passed .before .before) .passed)
     (state-passes passed)
     (not-formed (a .shape .n) (a .self) (a .s .now) (sym (read .ensures .0) ∙ not-true (read .result .formed) (c .before .if3 .taken))))
 
@@ -151,21 +154,17 @@ returns-4 c =
     let at = passed .before .before .before .before .before .before .before .before in
     let a = at .args in
     let question = c .before .before .awaited-question in
-    answer-received (a .shape) (a .sent .now) (a .received .now) (a .self) (a .s .now) (a .out .now) (step at) (c .refused4 .result) (a .out .now) refl
+    answer-received (lent (a .shape) (a .sent .now) (a .received .now)) (a .self) (a .s .now) (a .out .now) (step at) (c .refused4 .result) (a .out .now) refl
     (at-third (tables at) (of-state at) (of-message at) (a .self) (step at .state) (step at .outgoing) (a .out .now) (question .result) (c .refused4 .result .answer) (c .refused4 .result .state) (c .refused4 .result .lengths) (c .before .if4 .taken)
     (c .refused4 .ensures)
-    (accepted (passed .before .before))
+    (accepted (passed .before .before) .passed)
     (state-passes passed)
     (asked (c .before .before)))
 
 -- ---- the room
 
 rows-of-requires : tie.Need-rows-of-requires
-rows-of-requires c κs =
-    let passed = c .before .before .before .before .before .before .before in
-    let at = passed .before .before .before .before .before .before .before .before in
-    let a = at .args in
-    accepted-few (a .shape) (a .sent .now) (a .received .now) (counts-long at) (accepted (passed .before .before))
+rows-of-requires c κs = accepted-few (accepted (c .before .before .before .before .before .before .before .before .before))
 
 step-requires : tie.Need-step-requires
 step-requires c κs =
@@ -173,10 +172,7 @@ step-requires c κs =
     let at = passed .before .before .before .before .before .before .before .before in
     let a = at .args in
     let rows = c .rows-of in (
-      given-of (a .shape) (a .sent .now) (a .received .now) (rows .result) (a .self .me .0) (counts-long at) (accepted (passed .before .before))
-          (rows .ensures .0)
-          (rows .ensures .1)
-          (state-named (a .shape .n) (own at) (a .self) (state-passes passed)),
+      (rows-accepted (accepted (passed .before .before)) (rows .ensures), rw (rows .ensures .0) (state-named (a .shape .n) (own at) (a .self) (state-passes passed))),
       (sender (c .before .before .before .before), fitting-rounds (own at) (a .self) (fitting passed)),
     )
 
@@ -186,7 +182,7 @@ is-step c =
     let a = c .before .before .before .before .before .before .before .before .before .before .before .before .before .before .before .before .before .args in
     let rows = c .before .rows-of in
     let read = c .before .before .before .before .before .before .before .read-message in
-    step-on (a .shape) (a .sent .now) (a .received .now) (a .self) (a .s .now) (rows .result) (read .result .message) (c .step .result) (rows .ensures .0)
+    step-on (lent (a .shape) (a .sent .now) (a .received .now)) (a .self) (a .s .now) (rows .result) (read .result .message) (c .step .result) (rows .ensures .0)
     (read .ensures .1)
     (c .step .ensures)
 
@@ -208,9 +204,9 @@ returns-5 c =
     let a = at .args in
     let next = stepped .step .result in
     let sent = c .before .before .before .before .before .send in
-    answer-received (a .shape) (a .sent .now) (a .received .now) (a .self) (a .s .now) (a .out .now) next (c .refused5 .result) (sent .last .1 .0)
+    answer-received (lent (a .shape) (a .sent .now) (a .received .now)) (a .self) (a .s .now) (a .out .now) next (c .refused5 .result) (sent .last .1 .0)
     (is-step stepped)
-    (at-room (tables at) (of-state at) (of-message at) (a .self) (next .state) (next .outgoing) (a .out .now) (accepted (passed .before .before)) (state-passes passed)
+    (at-room (tables at) (of-state at) (of-message at) (a .self) (next .state) (next .outgoing) (a .out .now) (accepted (passed .before .before) .passed) (state-passes passed)
     (sym (asked (awaited .before)) ∙ awaited .if4 .left)
     (sent .result .question)
     (sent .last .1 .0)
@@ -232,9 +228,9 @@ returns-6 c =
     let a = at .args in
     let next = stepped .step .result in
     let sent = c .before .before .before .before .before .before .send in
-    answer-received (a .shape) (a .sent .now) (a .received .now) (a .self) (a .s .now) (a .out .now) next _ (sent .last .1 .0)
+    answer-received (lent (a .shape) (a .sent .now) (a .received .now)) (a .self) (a .s .now) (a .out .now) next _ (sent .last .1 .0)
     (is-step stepped)
-    (at-end (tables at) (of-state at) (of-message at) (a .self) (next .state) (next .outgoing) (a .out .now) (accepted (passed .before .before)) (state-passes passed)
+    (at-end (tables at) (of-state at) (of-message at) (a .self) (next .state) (next .outgoing) (a .out .now) (accepted (passed .before .before) .passed) (state-passes passed)
     (sym (asked (awaited .before)) ∙ awaited .if4 .left)
     (sent .result .question)
     (sent .last .1 .0)

@@ -1,8 +1,12 @@
 -- `search_fits` meets its contract.
 use mathlib.Core.Path.{_≡_, sym, _∙_}
 use Prim.Native.Nat.{_-_}
+use native.Mathlib.Omega.{arith}
 use borrow.Author.Needs.{needs}
 use borrow.Author.Tests.{not-true, not-false}
+use Rattle.book.specs.Lent.{lent}
+use Rattle.line_theory.proofs.Accepted.{rows-few}
+use Rattle.consistency.proofs.Calls.{sent-whole, received-whole, received-rise}
 use Rattle.matrix.specs.Matrix.{row}
 use Rattle.matrix.specs.Entries.{same}
 use Rattle.machine.specs.Own.{Own, ownOf, sentRow}
@@ -11,16 +15,16 @@ use Rattle.initiator.proofs.Initiator.search_fits.Statement.{statement}
 use Rattle.initiator.proofs.Initiator.search_fits.Tie as tie
 
 abbrev own : tie.Start → Own
-own c = let a = c .args in ownOf (a .rows .shape) (a .sent .now) (a .received .now) (a .self .me .0 - 1)
+own c = let a = c .args in ownOf (lent (a .rows .shape) (a .sent .now) (a .received .now)) (a .self .me .0 - 1)
 
 kept-matrix-requires : tie.Need-kept-matrix-requires
 kept-matrix-requires c κs = search needs
 
 row-requires : tie.Need-row-requires
-row-requires c κs = search needs
+row-requires c κs = omega (arith, rows-few)
 
 sent-row-requires : tie.Need-sent-row-requires
-sent-row-requires c κs = search needs
+sent-row-requires c κs = search (needs, sent-whole)
 
 same-requires : tie.Need-same-requires
 same-requires c κs = search needs
@@ -36,10 +40,10 @@ returns c =
     sym (search-row (own at) (at .args .self) (row-told (c .before) ∙ not-true (c .before .same .result) (c .if1 .taken)))
 
 column-requires : tie.Need-column-requires
-column-requires c κs = search needs
+column-requires c κs = omega (arith, rows-few)
 
 newest-near-requires : tie.Need-newest-near-requires
-newest-near-requires c κs = search needs
+newest-near-requires c κs = search (needs, received-whole, received-rise)
 
 returns-2 : tie.Need-returns-2
 returns-2 c =

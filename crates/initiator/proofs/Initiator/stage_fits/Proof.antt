@@ -5,13 +5,14 @@ use mathlib.Core.Bool.{false}
 use Prim.Native.Nat.{_-_}
 use borrow.Author.Needs.{needs}
 use lib.Dec.{eqb}
+use Rattle.book.specs.Lent.{lent}
 use Rattle.machine.specs.Own.{Own, ownOf}
 use Rattle.initiator.proofs.Fitting.{stage-restarted, stage-searched}
 use Rattle.initiator.proofs.Initiator.stage_fits.Statement.{statement}
 use Rattle.initiator.proofs.Initiator.stage_fits.Tie as tie
 
 abbrev own : tie.Start → Own
-own c = let a = c .args in ownOf (a .rows .shape) (a .sent .now) (a .received .now) (a .self .me .0 - 1)
+own c = let a = c .args in ownOf (lent (a .rows .shape) (a .sent .now) (a .received .now)) (a .self .me .0 - 1)
 
 restart-fits-requires : tie.Need-restart-fits-requires
 restart-fits-requires c κs = search needs

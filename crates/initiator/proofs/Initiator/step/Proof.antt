@@ -1,16 +1,16 @@
 -- `step` meets its contract.
-use mathlib.Core.Path.{sym, subst, _∙_}
+use mathlib.Core.Path.{sym, _∙_}
 use Prim.Native.Nat.{ℕ, _-_}
 use borrow.Author.Needs.{needs}
+use Rattle.book.specs.Lent.{lent}
 use Rattle.machine.specs.Own.{Own, ownOf}
-use Rattle.machine.specs.Given.{Given}
 use Rattle.initiator.proofs.Steps.{taken-me, back-keeps, step-silent, step-compared}
 use Rattle.initiator.proofs.Initiator.step.Statement.{statement}
 use Rattle.initiator.proofs.Initiator.step.Tie as tie
 
 -- what a process sees
 abbrev own : tie.Start → ℕ → Own
-own c j = let a = c .args in ownOf (a .rows .shape) (a .sent .now) (a .received .now) j
+own c j = let a = c .args in ownOf (lent (a .rows .shape) (a .sent .now) (a .received .now)) j
 
 take-report-requires : tie.Need-take-report-requires
 take-report-requires c κs = search needs
@@ -35,7 +35,7 @@ step-back-requires c κs =
     let at = c .before .before .before .before .before .before in
     let a = at .args in
     let taken = c .before .before .before .take-report in
-    subst (λ (j : ℕ). Given (a .rows) (a .sent .now) (a .received .now) j) (sym (taken-me (a .self) (a .message) (taken .result) (taken .ensures))) (at .pre .0)
+    (at .pre .0 .0, rw (taken-me (a .self) (a .message) (taken .result) (taken .ensures)) (at .pre .0 .1))
 
 compare-requires : tie.Need-compare-requires
 compare-requires c κs =
@@ -43,7 +43,7 @@ compare-requires c κs =
     let a = at .args in
     let taken = c .before .before .before .before .take-report in
     back-keeps (own at (taken .result .me .0 - 1)) (a .self) (a .message) (taken .result) (c .step-back .result) (taken .ensures) (c .step-back .ensures)
-    (at .pre .0 .present .0)
+    (at .pre .0 .1 .0)
     (at .pre .1 .1)
 
 returns-2 : tie.Need-returns-2

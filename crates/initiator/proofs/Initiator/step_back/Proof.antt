@@ -1,6 +1,10 @@
 -- `step_back` meets its contract.
 use Prim.Native.Nat.{_-_}
+use native.Mathlib.Omega.{arith}
 use borrow.Author.Needs.{needs}
+use Rattle.book.specs.Lent.{lent}
+use Rattle.line_theory.proofs.Accepted.{rows-few}
+use Rattle.consistency.proofs.Calls.{sent-whole, received-whole, received-rise}
 use Rattle.machine.specs.Own.{ownOf}
 use Rattle.machine.proofs.Calls.{newest-there}
 use Rattle.initiator.proofs.Steps.{back-is}
@@ -8,10 +12,10 @@ use Rattle.initiator.proofs.Initiator.step_back.Statement.{statement}
 use Rattle.initiator.proofs.Initiator.step_back.Tie as tie
 
 column-requires : tie.Need-column-requires
-column-requires c κs = search needs
+column-requires c κs = omega (arith, rows-few)
 
 newest-near-requires : tie.Need-newest-near-requires
-newest-near-requires c κs = search needs
+newest-near-requires c κs = search (needs, received-whole, received-rise)
 
 sent-row-requires : tie.Need-sent-row-requires
 sent-row-requires c κs =
@@ -19,12 +23,12 @@ sent-row-requires c κs =
     let a = at .args in
     let given = at .pre in
     let newest = c .newest-near in (
-      (given .in-sent, given .present),
-      newest-there (a .rows) (a .sent .now) (a .received .now) (a .self .me .0) (c .before .column .result) (newest .result .0) given (newest .ensures),
+      (sent-whole (given .0), given .1),
+      newest-there (a .self .me .0) (c .before .column .result) (given .0) (given .1) (newest .ensures),
     )
 
 with-row-requires : tie.Need-with-row-requires
-with-row-requires c κs = search needs
+with-row-requires c κs = omega (arith, rows-few)
 
 returns : tie.Need-returns
 returns c =
@@ -32,7 +36,7 @@ returns c =
     let known = c .before .before .before .column in
     let newest = c .before .before .newest-near in
     let row = c .before .sent-row in
-    back-is (ownOf (a .rows .shape) (a .sent .now) (a .received .now) (a .self .me .0 - 1)) (a .self) (known .result) (newest .result) (row .result)
+    back-is (ownOf (lent (a .rows .shape) (a .sent .now) (a .received .now)) (a .self .me .0 - 1)) (a .self) (known .result) (newest .result) (row .result)
     (c .with-row .result)
     (known .ensures)
     (newest .ensures)

@@ -1,6 +1,7 @@
 -- `terminate` meets its contract.
 use borrow.Author.Needs.{needs}
-use Rattle.matrix.proofs.Sparse.{one-value}
+use Rattle.book.specs.Bounds.{mark}
+use Rattle.matrix.proofs.Rows.{one-value}
 use Rattle.initiator.specs.Step.{terminate}
 use Rattle.initiator.proofs.Initiator.terminate.Statement.{statement}
 use Rattle.initiator.proofs.Initiator.terminate.Tie as tie
@@ -10,7 +11,7 @@ participants-requires c κs = search needs
 
 returns : tie.Need-returns
 unfolding terminate
-returns c = rw (c .participants .ensures, one-value 4294967295)
+returns c = rw (c .participants .ensures, one-value mark)
 
 pub terminate-spec : {M : Type 1} → statement M
 terminate-spec = tie.close (tie.spec participants-requires returns)

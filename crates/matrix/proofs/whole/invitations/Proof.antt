@@ -1,21 +1,22 @@
 -- `invitations` meets its contract. The invariant: the news so far are the own counters, and from there on nothing is known.
-use mathlib.Core.Path.{_≡_, sym, subst}
+use mathlib.Core.Path.{_≡_, refl, sym, subst, _∙_}
 use mathlib.Core.Logic.{⊎-elim}
 use mathlib.Core.List.{List}
 use Prim.Native.Nat.{ℕ, _+_, _-_, _/_, _%_}
 use native.Mathlib.Omega.{arith}
 use borrow.Author.Needs.{needs}
 use borrow.Author.Tests.{eq-eqb, ne-eqb}
-use lib.ListN.{getD}
+use lib.ListN.{replicate, getD-replicate}
 use lib.Dec.{eqb}
 use Rattle.book.specs.declared.Count.{Count}
 use Rattle.book.specs.Bounds.{mark}
 use Rattle.consistency.specs.Known.{counters}
 use Rattle.lists.specs.Pick.{pick}
-use Rattle.matrix.proofs.Rows.{filled-matrix}
+use Rattle.lists.proofs.Filling.{Filled, filled-none, filled-more, filled-kept, filled-all}
+use Rattle.book.proofs.Values.{tally, tally-of}
+use Rattle.matrix.specs.Matrix.{asMatrix}
 use Rattle.matrix.proofs.whole.invitations.Statement.{statement}
 use Rattle.matrix.proofs.whole.invitations.Tie as tie
-use Rattle.matrix.proofs.Sparse.{Sparse, sparse-none, sparse-more, sparse-as-is}
 
 abbrev invitation : ℕ → List Count → ℕ → ℕ → ℕ
 invitation me sent p k = pick (eqb k me) (counters sent p) mark
@@ -27,7 +28,7 @@ none-there : (me : ℕ) (sent : List Count) (p k : ℕ) → (k ≡ me → ⊥) �
 none-there me sent p k ne = rw (ne-eqb k me ne)
 
 abbrev Inv-loop : tie.InvT-loop
-Inv-loop sent news₀ own i₀ news i = Sparse mark (λ k. invitation own sent (k / 16) (k % 16)) news i
+Inv-loop sent news₀ own i₀ news i = Filled (tally 0) news₀ 256 (λ k. tally (invitation own sent (k / 16) (k % 16))) news i
 
 abbrev μ-loop : tie.MeasureT-loop
 μ-loop sent news₀ own i₀ news i = 256 - i
@@ -36,7 +37,7 @@ sub-own : tie.Need-sub-own Inv-loop μ-loop
 sub-own c = omega arith
 
 loop-holds : tie.Need-loop-holds Inv-loop μ-loop
-loop-holds c = sparse-none mark (λ k. invitation (c .before .args .me .0 - 1) (c .before .args .t2) (k / 16) (k % 16))
+loop-holds c = filled-none (omega arith)
 
 mul-news : tie.Need-mul-news Inv-loop μ-loop
 mul-news c = omega arith
@@ -62,17 +63,17 @@ loop-again c =
     let at-loop = c .before .before .loop in
     let i = at-loop .i in
     let own : ℕ = a .me .0 - 1 in
-    let f : ℕ → ℕ = λ k. invitation own (a .t2) (k / 16) (k % 16) in
-    let P : List Count → Type 0 = λ l. Sparse mark f l (i + 1) in
+    let unknown : List Count = replicate 256 (tally mark) in
+    let P : List Count → Type 0 = λ l. Filled (tally 0) unknown 256 (λ k. tally (invitation own (a .t2) (k / 16) (k % 16))) l (i + 1) in
     ⊎-elim
-    (λ t. subst P (sym (t .2)) (sparse-more mark f (at-loop .news) i (getD (a .t2) (i / 16) (record { 0 = 0 })) (at-loop .inv) (c .before .loop-test .taken) (own-there own (a .t2) (i / 16) (i % 16) (t .0 .taken))))
-    (λ t. subst P (sym (t .1)) (sparse-as-is mark f (at-loop .news) i (at-loop .inv) (c .before .loop-test .taken) (none-there own (a .t2) (i / 16) (i % 16) (t .0 .left))))
+    (λ t. subst P (sym (t .2)) (filled-more (at-loop .inv) (c .before .loop-test .taken) (tally-of (own-there own (a .t2) (i / 16) (i % 16) (t .0 .taken)))))
+    (λ t. subst P (sym (t .1)) (filled-kept (at-loop .inv) (c .before .loop-test .taken)
+    (getD-replicate 256 i (tally mark) (tally 0) (c .before .loop-test .taken) ∙ tally-of (none-there own (a .t2) (i / 16) (i % 16) (t .0 .left)))))
     (c .if1 .came)
 
 returns : tie.Need-returns Inv-loop μ-loop
-returns c =
-    let a = c .before .before .before .args in
-    filled-matrix (invitation (a .me .0 - 1) (a .t2)) (c .before .loop .news) (c .before .loop .i) (c .before .loop .inv .filled) (c .loop-test .left)
+unfolding asMatrix
+returns c = filled-all (c .before .loop .inv) refl (c .loop-test .left)
 
 pub invitations-spec : {M : Type 1} → statement M
 invitations-spec =

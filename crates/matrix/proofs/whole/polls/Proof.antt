@@ -5,9 +5,10 @@ use Prim.Native.Nat.{ℕ, _-_, _/_, _%_}
 use native.Mathlib.Omega.{arith}
 use borrow.Author.Needs.{needs}
 use Rattle.book.specs.declared.Count.{Count}
-use Rattle.matrix.specs.Matrix.{entry}
+use Rattle.matrix.specs.Matrix.{asMatrix, entry}
 use Rattle.matrix.specs.Entries.{differing}
-use Rattle.matrix.proofs.Rows.{Filled, filled-none, filled-more, filled-matrix}
+use Rattle.lists.proofs.Filling.{Filled, filled-none, filled-more, filled-all}
+use Rattle.book.proofs.Values.{tally, tally-of}
 use Rattle.matrix.proofs.whole.polls.Statement.{statement}
 use Rattle.matrix.proofs.whole.polls.Tie as tie
 
@@ -15,13 +16,13 @@ abbrev poll : List Count → List Count → ℕ → ℕ → ℕ
 poll matrix copy p k = differing (entry matrix k p) (entry copy k p)
 
 abbrev Inv-loop : tie.InvT-loop
-Inv-loop matrix copy news₀ i₀ news i = Filled 256 (λ k. poll matrix copy (k / 16) (k % 16)) news i
+Inv-loop matrix copy news₀ i₀ news i = Filled (tally 0) news₀ 256 (λ k. tally (poll matrix copy (k / 16) (k % 16))) news i
 
 abbrev μ-loop : tie.MeasureT-loop
 μ-loop matrix copy news₀ i₀ news i = 256 - i
 
 loop-holds : tie.Need-loop-holds Inv-loop μ-loop
-loop-holds c = filled-none 256 (λ k. poll (c .args .t1) (c .args .t2) (k / 16) (k % 16)) _ refl
+loop-holds c = filled-none (omega arith)
 
 mul-across : tie.Need-mul-across Inv-loop μ-loop
 mul-across c = omega arith
@@ -57,15 +58,11 @@ loop-less : tie.Need-loop-less Inv-loop μ-loop
 loop-less c = search needs
 
 loop-again : tie.Need-loop-again Inv-loop μ-loop
-loop-again c =
-    let a = c .before .before .before .before .before .args in
-    let at-loop = c .before .before .before .before .loop in
-    filled-more 256 (λ k. poll (a .t1) (a .t2) (k / 16) (k % 16)) (at-loop .news) (at-loop .i) (c .differing .result) (at-loop .inv) (c .before .before .before .loop-test .taken) (c .differing .ensures)
+loop-again c = filled-more (c .before .before .before .before .loop .inv) (c .before .before .before .loop-test .taken) (tally-of (c .differing .ensures))
 
 returns : tie.Need-returns Inv-loop μ-loop
-returns c =
-    let a = c .before .before .args in
-    filled-matrix (poll (a .t1) (a .t2)) (c .before .loop .news) (c .before .loop .i) (c .before .loop .inv) (c .loop-test .left)
+unfolding asMatrix
+returns c = filled-all (c .before .loop .inv) refl (c .loop-test .left)
 
 pub polls-spec : {M : Type 1} → statement M
 polls-spec =

@@ -5,8 +5,9 @@ use Prim.Native.Nat.{_-_, _≤_, _<_}
 use native.Mathlib.Omega.{arith}
 use borrow.Author.Needs.{needs}
 use borrow.Author.Tests.{not-true, not-false}
+use Rattle.book.specs.Lent.{lent}
 use Rattle.book.specs.Check.{tablesQuestion}
-use Rattle.line_theory.proofs.Accepted.{accepted-size}
+use Rattle.line_theory.proofs.Accepted.{passed-size}
 use Rattle.machine.specs.Named.{participantNamed}
 use Rattle.participant.proofs.Fitting.{named-there}
 use Rattle.participant.proofs.Calls.{first-tables, first-unnamed, first-no-purpose, first-begun}
@@ -23,14 +24,14 @@ returns : tie.Need-returns
 returns c =
     let a = c .before .before .before .before .before .args in
     let question = c .before .before .question in
-    first-tables (a .shape) (a .sent .now) (a .received .now) (a .me) (a .initiator) (a .purpose) (question .result) (c .no-participant .result)
+    first-tables (lent (a .shape) (a .sent .now) (a .received .now)) (a .me) (a .initiator) (a .purpose) (question .result) (c .no-participant .result)
     (question .ensures)
     (c .before .if1 .taken)
     (c .no-participant .ensures)
 
 -- what is known once the tables have passed, and once the names have
 accepted : (c : tie.After-counts) → let a = c .before .before .before .before .before .args in
-    tablesQuestion (a .shape) (a .sent .now) (a .received .now) ≡ 0
+    tablesQuestion (lent (a .shape) (a .sent .now) (a .received .now)) ≡ 0
 accepted c = sym (c .before .before .question .ensures) ∙ c .before .if1 .left
 
 named : (c : tie.Else2) → let a = c .before .before .before .before .before .before .before .args in
@@ -42,7 +43,7 @@ within : (c : tie.Else2) → let a = c .before .before .before .before .before .
 within c =
     let a = c .before .before .before .before .before .before .before .args in
     let there = named-there (a .shape .n) (a .me .0) (a .initiator .0) (named c) .0 in
-    let size = accepted-size (a .shape) (a .sent .now) (a .received .now) (accepted (c .before .before)) in
+    let size = passed-size (lent (a .shape) (a .sent .now) (a .received .now)) (accepted (c .before .before)) in
     (there .0, omega (arith, there, size))
 
 participant-named-requires : tie.Need-participant-named-requires
@@ -55,7 +56,7 @@ returns-2 : tie.Need-returns-2
 returns-2 c =
     let a = c .before .before .before .before .before .before .before .before .args in
     let told = c .before .before .participant-named in
-    first-unnamed (a .shape) (a .sent .now) (a .received .now) (a .me) (a .initiator) (a .purpose) (accepted (c .before .before .before))
+    first-unnamed (lent (a .shape) (a .sent .now) (a .received .now)) (a .me) (a .initiator) (a .purpose) (accepted (c .before .before .before))
     (c .no-participant2 .result)
     (sym (told .ensures) ∙ not-true (told .result) (c .before .if2 .taken))
     (c .no-participant2 .ensures)
@@ -70,7 +71,7 @@ returns-3 : tie.Need-returns-3
 returns-3 c =
     let a = c .before .before .before .before .before .before .before .before .before .before .args in
     let told = c .before .before .is-purpose in
-    first-no-purpose (a .shape) (a .sent .now) (a .received .now) (a .me) (a .initiator) (a .purpose)
+    first-no-purpose (lent (a .shape) (a .sent .now) (a .received .now)) (a .me) (a .initiator) (a .purpose)
     (accepted (c .before .before .before .before .before))
     (c .no-participant3 .result)
     (named (c .before .before .before))
@@ -93,7 +94,7 @@ returns-4 : tie.Need-returns-4
 returns-4 c =
     let a = c .before .before .before .before .before .before .before .before .before .before .before .args in
     let told = c .before .before .before .is-purpose in
-    first-begun (a .shape) (a .sent .now) (a .received .now) (a .me) (a .initiator) (a .purpose)
+    first-begun (lent (a .shape) (a .sent .now) (a .received .now)) (a .me) (a .initiator) (a .purpose)
     (accepted (c .before .before .before .before .before .before))
     (c .before2 .result)
     (named (c .before .before .before .before))

@@ -2,7 +2,10 @@
 use mathlib.Core.Path.{sym, _∙_}
 use mathlib.Core.Logic.{⊎-elim}
 use Prim.Native.Nat.{_-_, _≤_}
+use native.Mathlib.Omega.{arith}
 use borrow.Author.Needs.{needs}
+use Rattle.book.specs.Lent.{lent}
+use Rattle.line_theory.proofs.Accepted.{rows-few}
 use borrow.Author.Tests.{ltb-true, ltb-false, not-true, not-false}
 use Rattle.machine.specs.Own.{Own, ownOf}
 use Rattle.participant.proofs.Fitting.{fits-size, fits-none-below, fits-none-above, fits-row, fits-column, fits-stage}
@@ -10,7 +13,7 @@ use Rattle.participant.proofs.Participant.fits.Statement.{statement}
 use Rattle.participant.proofs.Participant.fits.Tie as tie
 
 abbrev own : tie.Start → Own
-own c = let a = c .args in ownOf (a .rows .shape) (a .sent .now) (a .received .now) (a .self .me .0 - 1)
+own c = let a = c .args in ownOf (lent (a .rows .shape) (a .sent .now) (a .received .now)) (a .self .me .0 - 1)
 
 sub-place : tie.Need-sub-place
 sub-place c = search needs
@@ -21,10 +24,10 @@ returns c =
     sym (fits-size (own at) (at .args .self) (c .if1 .taken))
 
 mul-if3 : tie.Need-mul-if3
-mul-if3 c = search needs
+mul-if3 c = omega (arith, rows-few)
 
 array-read-if3 : tie.Need-array-read-if3
-array-read-if3 c = search needs
+array-read-if3 c = omega (arith, rows-few)
 
 returns-2 : tie.Need-returns-2
 returns-2 c =

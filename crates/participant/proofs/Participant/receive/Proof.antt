@@ -4,11 +4,13 @@ use Prim.Native.Nat.{ℕ}
 use native.Mathlib.Omega.{arith}
 use borrow.Author.Needs.{needs}
 use lib.ListN.{length}
+use Rattle.book.specs.Lent.{lent}
 use Rattle.book.specs.Check.{tablesQuestion}
+use Rattle.book.specs.Accepted.{AreAccepted}
+use Rattle.book.proofs.Starts.{rows-accepted}
 use Rattle.line_theory.proofs.Accepted.{accepted-size, accepted-few}
 use Rattle.machine.specs.Own.{Own}
 use Rattle.machine.proofs.Answers.{at-first, at-second, at-third, at-room, at-end}
-use Rattle.machine.proofs.Calls.{given-of}
 use Rattle.participant.specs.declared.ParticipantStep.{ParticipantStep}
 use Rattle.participant.specs.Calls.{ownOfState, stateQuestion, messageQuestion, stepOn}
 use Rattle.participant.proofs.Calls.{state-named, step-on, message-asked, answer-received}
@@ -18,10 +20,10 @@ use Rattle.participant.proofs.Participant.receive.Tie as tie
 -- ---- the questions, and the step
 
 abbrev own : tie.Start → Own
-own c = let a = c .args in ownOfState (a .shape) (a .sent .now) (a .received .now) (a .self)
+own c = let a = c .args in ownOfState (lent (a .shape) (a .sent .now) (a .received .now)) (a .self)
 
 abbrev tables : tie.Start → ℕ
-tables c = let a = c .args in tablesQuestion (a .shape) (a .sent .now) (a .received .now)
+tables c = let a = c .args in tablesQuestion (lent (a .shape) (a .sent .now) (a .received .now))
 
 abbrev of-state : tie.Start → ℕ
 of-state c = let a = c .args in stateQuestion (a .shape .n) (own c) (a .self)
@@ -30,7 +32,7 @@ abbrev of-message : tie.Start → ℕ
 of-message c = let a = c .args in messageQuestion (a .shape .n) (a .self) (a .s .now)
 
 abbrev step : tie.Start → ParticipantStep
-step c = let a = c .args in stepOn (a .shape) (a .sent .now) (a .received .now) (a .self) (a .s .now)
+step c = let a = c .args in stepOn (lent (a .shape) (a .sent .now) (a .received .now)) (a .self) (a .s .now)
 
 counts-long : (c : tie.Start) → length (c .args .shape .counts) ≡ 16
 counts-long c = search needs
@@ -49,19 +51,22 @@ returns c =
     let a = at .args in
     let question = c .before .before .question in
     let r = c .refused .result in
-    answer-received (a .shape) (a .sent .now) (a .received .now) (a .self) (a .s .now) (a .out .now) (step at) r (a .out .now) refl
+    answer-received (lent (a .shape) (a .sent .now) (a .received .now)) (a .self) (a .s .now) (a .out .now) (step at) r (a .out .now) refl
     (at-first (tables at) (of-state at) (of-message at) (a .self) (step at .state) (step at .outgoing) (a .out .now) (question .result)
     (r .answer) (r .state) (r .lengths) (c .before .if1 .taken)
     (c .refused .ensures)
     (question .ensures))
 
-accepted : (c : tie.Else1) → tables (c .before .before .before .before .before .before) ≡ 0
-accepted c = sym (c .before .question .ensures) ∙ c .if1 .left
+accepted : (c : tie.Else1) → let a = c .before .before .before .before .before .before .args in AreAccepted (lent (a .shape) (a .sent .now) (a .received .now))
+accepted c = record {
+  sixteen = counts-long (c .before .before .before .before .before .before);
+  passed = sym (c .before .question .ensures) ∙ c .if1 .left;
+}
 
 -- ---- the state
 
 state-question-requires : tie.Need-state-question-requires
-state-question-requires c κs = search needs
+state-question-requires c κs = accepted c
 
 refused-requires-2 : tie.Need-refused-requires-2
 refused-requires-2 c κs = search needs
@@ -72,11 +77,11 @@ returns-2 c =
     let a = at .args in
     let question = c .before .before .state-question in
     let r = c .refused2 .result in
-    answer-received (a .shape) (a .sent .now) (a .received .now) (a .self) (a .s .now) (a .out .now) (step at) r (a .out .now) refl
+    answer-received (lent (a .shape) (a .sent .now) (a .received .now)) (a .self) (a .s .now) (a .out .now) (step at) r (a .out .now) refl
     (at-second (tables at) (of-state at) (of-message at) (a .self) (step at .state) (step at .outgoing) (a .out .now) (question .result)
     (r .answer) (r .state) (r .lengths) (c .before .if2 .taken)
     (c .refused2 .ensures)
-    (accepted (c .before .before .before))
+    (accepted (c .before .before .before) .passed)
     (question .ensures))
 
 state-passes : (c : tie.Else2) → of-state (c .before .before .before .before .before .before .before .before) ≡ 0
@@ -86,8 +91,7 @@ state-passes c = sym (c .before .state-question .ensures) ∙ c .if2 .left
 
 read-message-requires : tie.Need-read-message-requires
 read-message-requires c κs =
-    let a = c .before .before .before .before .before .before .before .before .before .before .args in
-    accepted-size (a .shape) (a .sent .now) (a .received .now) (accepted (c .before .before .before .before)) .1
+    accepted-size (accepted (c .before .before .before .before)) .1
 
 message-question-requires : tie.Need-message-question-requires
 message-question-requires c κs = search needs
@@ -108,12 +112,12 @@ returns-3 c =
     let a = at .args in
     let passed = c .before .before .before .before .before .before in
     let r = c .refused3 .result in
-    answer-received (a .shape) (a .sent .now) (a .received .now) (a .self) (a .s .now) (a .out .now) (step at) r (a .out .now) refl
+    answer-received (lent (a .shape) (a .sent .now) (a .received .now)) (a .self) (a .s .now) (a .out .now) (step at) r (a .out .now) refl
     (at-third (tables at) (of-state at) (of-message at) (a .self) (step at .state) (step at .outgoing) (a .out .now)
     (c .before .before .message-question .result)
     (r .answer) (r .state) (r .lengths) (c .before .if3 .taken)
     (c .refused3 .ensures)
-    (accepted (passed .before .before))
+    (accepted (passed .before .before) .passed)
     (state-passes passed)
     (message-is (c .before .before)))
 
@@ -123,24 +127,21 @@ message-passes c = sym (message-is (c .before)) ∙ c .if3 .left
 -- ---- the room
 
 rows-of-requires : tie.Need-rows-of-requires
-rows-of-requires c κs =
-    let at = c .before .before .before .before .before .before .before .before .before .before .before .before .before in
-    let a = at .args in
-    accepted-few (a .shape) (a .sent .now) (a .received .now) (counts-long at)
-    (accepted (c .before .before .before .before .before .before .before))
+rows-of-requires c κs = accepted-few (accepted (c .before .before .before .before .before .before .before))
 
 step-requires : tie.Need-step-requires
 step-requires c κs =
     let at = c .before .before .before .before .before .before .before .before .before .before .before .before .before .before .before in
     let a = at .args in
     let passed = c .before .before .before .before .before .before .before in
-    let none = accepted (passed .before .before) in
+    let all = accepted (passed .before .before) in
     let rows = c .before .rows-of in
-    let named = state-named (a .shape .n) (own at) (a .self) (state-passes passed) in
-    let size = accepted-size (a .shape) (a .sent .now) (a .received .now) none in (
-      given-of (a .shape) (a .sent .now) (a .received .now) (rows .result) (a .self .me .0) (counts-long at) none (rows .ensures .0) (rows .ensures .1)
-          (named .0),
-      (named .1 .0, omega (arith, named .1, size)),
+    let named = state-named (a .shape .n) (own at) (a .self) (state-passes passed) in (
+      (
+        rows-accepted all (rows .ensures),
+        rw (rows .ensures .0) (named .0),
+      ),
+      (named .1 .0, omega (arith, named .1, accepted-size all)),
     )
 
 step-is : (c : tie.After-step) →
@@ -149,7 +150,7 @@ step-is c =
     let a = c .before .before .before .before .before .before .before .before .before .before .before .before .before .before .before .before .args in
     let rows = c .before .before .rows-of in
     let read = c .before .before .before .before .before .read-message in
-    step-on (a .shape) (a .sent .now) (a .received .now) (a .self) (a .s .now) (rows .result) (read .result .message) (c .step .result)
+    step-on (lent (a .shape) (a .sent .now) (a .received .now)) (a .self) (a .s .now) (rows .result) (read .result .message) (c .step .result)
     (rows .ensures .0)
     (read .ensures .1)
     (c .step .ensures)
@@ -173,9 +174,9 @@ returns-4 c =
     let passed = read .before .before .before .before .before in
     let next = stepped .step .result in
     let r = c .refused4 .result in
-    answer-received (a .shape) (a .sent .now) (a .received .now) (a .self) (a .s .now) (a .out .now) next r (sent .last .1 .0)
+    answer-received (lent (a .shape) (a .sent .now) (a .received .now)) (a .self) (a .s .now) (a .out .now) next r (sent .last .1 .0)
     (step-is stepped)
-    (at-room (tables at) (of-state at) (of-message at) (a .self) (next .state) (next .outgoing) (a .out .now) (accepted (passed .before .before))
+    (at-room (tables at) (of-state at) (of-message at) (a .self) (next .state) (next .outgoing) (a .out .now) (accepted (passed .before .before) .passed)
     (state-passes passed)
     (message-passes read)
     (sent .result .question)
@@ -197,9 +198,9 @@ returns-5 c =
     let read = stepped .before .before .before in
     let passed = read .before .before .before .before .before in
     let next = stepped .step .result in
-    answer-received (a .shape) (a .sent .now) (a .received .now) (a .self) (a .s .now) (a .out .now) next _ (sent .last .1 .0)
+    answer-received (lent (a .shape) (a .sent .now) (a .received .now)) (a .self) (a .s .now) (a .out .now) next _ (sent .last .1 .0)
     (step-is stepped)
-    (at-end (tables at) (of-state at) (of-message at) (a .self) (next .state) (next .outgoing) (a .out .now) (accepted (passed .before .before))
+    (at-end (tables at) (of-state at) (of-message at) (a .self) (next .state) (next .outgoing) (a .out .now) (accepted (passed .before .before) .passed)
     (state-passes passed)
     (message-passes read)
     (sent .result .question)

@@ -4,18 +4,20 @@ use mathlib.Core.List.{List}
 use Prim.Native.Nat.{_-_}
 use borrow.Author.Needs.{needs}
 use borrow.Author.Tests.{not-true, not-false}
+use Rattle.book.specs.Lent.{lent}
 use Rattle.book.specs.declared.Count.{Count}
 use Rattle.matrix.specs.Entries.{same}
+use Rattle.consistency.proofs.Calls.{sent-whole, received-whole, received-rise}
 use Rattle.machine.specs.Own.{Own, ownOf, sentRow}
 use Rattle.participant.proofs.Fitting.{search-row, search-newest}
 use Rattle.participant.proofs.Participant.search_fits.Statement.{statement}
 use Rattle.participant.proofs.Participant.search_fits.Tie as tie
 
 abbrev own : tie.Start → Own
-own c = let a = c .args in ownOf (a .rows .shape) (a .sent .now) (a .received .now) (a .self .me .0 - 1)
+own c = let a = c .args in ownOf (lent (a .rows .shape) (a .sent .now) (a .received .now)) (a .self .me .0 - 1)
 
 sent-row-requires : tie.Need-sent-row-requires
-sent-row-requires c κs = search needs
+sent-row-requires c κs = search (needs, sent-whole)
 
 same-requires : tie.Need-same-requires
 same-requires c κs = search needs
@@ -32,7 +34,7 @@ returns c =
     sym (search-row (own at) (at .args .self) (row-told (c .before) ∙ not-true (c .before .same .result) (c .if1 .taken)))
 
 newest-near-requires : tie.Need-newest-near-requires
-newest-near-requires c κs = search needs
+newest-near-requires c κs = search (needs, received-whole, received-rise)
 
 returns-2 : tie.Need-returns-2
 returns-2 c =

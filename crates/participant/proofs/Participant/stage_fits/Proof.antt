@@ -1,7 +1,10 @@
 -- `stage_fits` meets its contract.
 use mathlib.Core.Path.{_≡_, sym, ap, _∙_}
 use Prim.Native.Nat.{_-_}
+use native.Mathlib.Omega.{arith}
 use borrow.Author.Needs.{needs}
+use Rattle.book.specs.Lent.{lent}
+use Rattle.line_theory.proofs.Accepted.{rows-few}
 use Rattle.machine.specs.Own.{ownOf}
 use Rattle.participant.specs.declared.Stage.{Stage}
 use Rattle.participant.specs.Fits.{stageFits}
@@ -15,10 +18,10 @@ enum-told : tie.Need-enum-told
 enum-told c = search needs
 
 mul-t11 : tie.Need-mul-t11
-mul-t11 c = search needs
+mul-t11 c = omega (arith, rows-few)
 
 array-read-t14 : tie.Need-array-read-t14
-array-read-t14 c = search needs
+array-read-t14 c = omega (arith, rows-few)
 
 unknown-on-requires : tie.Need-unknown-on-requires
 unknown-on-requires c κs = search needs
@@ -36,11 +39,11 @@ end-fits-requires : tie.Need-end-fits-requires
 end-fits-requires c κs = search needs
 
 at-stage : (c : tie.Start) (s : Stage) → c .args .self .stage ≡ s → let a = c .args in
-    let own = ownOf (a .rows .shape) (a .sent .now) (a .received .now) (a .self .me .0 - 1) in
+    let own = ownOf (lent (a .rows .shape) (a .sent .now) (a .received .now)) (a .self .me .0 - 1) in
     stageFits own (a .self) s ≡ stageFits own (a .self) (a .self .stage)
 at-stage c s h =
     let a = c .args in
-    ap (λ (t : Stage). stageFits (ownOf (a .rows .shape) (a .sent .now) (a .received .now) (a .self .me .0 - 1)) (a .self) t) (sym h)
+    ap (λ (t : Stage). stageFits (ownOf (lent (a .rows .shape) (a .sent .now) (a .received .now)) (a .self .me .0 - 1)) (a .self) t) (sym h)
 
 returns : tie.Need-returns
 returns c =

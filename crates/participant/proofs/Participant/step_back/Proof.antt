@@ -1,6 +1,8 @@
 -- `step_back` meets its contract.
 use Prim.Native.Nat.{_-_}
 use borrow.Author.Needs.{needs}
+use Rattle.book.specs.Lent.{lent}
+use Rattle.consistency.proofs.Calls.{sent-whole, received-whole, received-rise}
 use Rattle.machine.specs.Own.{ownOf}
 use Rattle.machine.proofs.Calls.{newest-there}
 use Rattle.participant.proofs.Steps.{back-is}
@@ -11,7 +13,7 @@ patch-requires : tie.Need-patch-requires
 patch-requires c κs = search needs
 
 newest-near-requires : tie.Need-newest-near-requires
-newest-near-requires c κs = search needs
+newest-near-requires c κs = search (needs, received-whole, received-rise)
 
 sent-row-requires : tie.Need-sent-row-requires
 sent-row-requires c κs =
@@ -19,8 +21,8 @@ sent-row-requires c κs =
     let a = at .args in
     let given = at .pre in
     let newest = c .newest-near in (
-      (given .in-sent, given .present),
-      newest-there (a .rows) (a .sent .now) (a .received .now) (a .self .me .0) (c .before .patch .result) (newest .result .0) given (newest .ensures),
+      (sent-whole (given .0), given .1),
+      newest-there (a .self .me .0) (c .before .patch .result) (given .0) (given .1) (newest .ensures),
     )
 
 returns : tie.Need-returns
@@ -28,7 +30,7 @@ returns c =
     let a = c .before .before .before .before .before .before .before .before .before .before .args in
     let known = c .before .before .patch in
     let newest = c .before .newest-near in
-    back-is (ownOf (a .rows .shape) (a .sent .now) (a .received .now) (a .self .me .0 - 1)) (a .self) (a .message) (known .result)
+    back-is (ownOf (lent (a .rows .shape) (a .sent .now) (a .received .now)) (a .self .me .0 - 1)) (a .self) (a .message) (known .result)
     (newest .result)
     (c .sent-row .result)
     (known .ensures)

@@ -2,6 +2,7 @@
 use mathlib.Core.Path.{_≡_}
 use native.Mathlib.Omega.{arith}
 use lib.ListN.{length}
+use Rattle.words.specs.Words.{shapeLength, setLength}
 use Rattle.recovery_line.proofs.Shells.{two-long}
 use Rattle.recovery_line.proofs.LineCalls.{find-wrong, find-found, find-refused}
 use borrow.Author.Needs.{needs}
@@ -21,11 +22,11 @@ returns c =
 -- the slices have their lengths
 long : (c : tie.Else1)
     → let a = c .before .before .before .before .before .before .args in
-    (length (a .shape .now) ≡ 17) × (length (a .line .now) ≡ 16)
+    (length (a .shape .now) ≡ shapeLength) × (length (a .line .now) ≡ setLength)
 long c =
     let at-two-question = c .before in
     let a = at-two-question .before .before .before .before .before .args in
-    two-long 17 16 (a .shape .now) (a .line .now) (at-two-question .two-question .ensures) (c .if1 .left)
+    two-long shapeLength setLength (a .shape .now) (a .line .now) (at-two-question .two-question .ensures) (c .if1 .left)
 
 shape-in-requires : tie.Need-shape-in-requires
 shape-in-requires c κs = long c .0

@@ -1,6 +1,7 @@
 -- `recovery_line_test_set` meets its contract.
 use mathlib.Core.Path.{_≡_}
 use lib.ListN.{length}
+use Rattle.words.specs.Words.{shapeLength, setLength, pairLength}
 use Rattle.recovery_line.proofs.Shells.{three-long}
 use Rattle.recovery_line.proofs.LineCalls.{test-wrong, test-consistent, test-fault, test-refused}
 use borrow.Author.Needs.{needs}
@@ -20,11 +21,11 @@ returns c =
 -- the slices have their lengths
 long : (c : tie.Else1)
     → let a = c .before .before .before .before .before .before .before .args in
-    (length (a .shape .now) ≡ 17) × ((length (a .set .now) ≡ 16) × (length (a .pair .now) ≡ 2))
+    (length (a .shape .now) ≡ shapeLength) × ((length (a .set .now) ≡ setLength) × (length (a .pair .now) ≡ pairLength))
 long c =
     let at-three-question = c .before in
     let a = at-three-question .before .before .before .before .before .before .args in
-    three-long 17 16 2 (a .shape .now) (a .set .now) (a .pair .now) (at-three-question .three-question .ensures) (c .if1 .left)
+    three-long shapeLength setLength pairLength (a .shape .now) (a .set .now) (a .pair .now) (at-three-question .three-question .ensures) (c .if1 .left)
 
 shape-in-requires : tie.Need-shape-in-requires
 shape-in-requires c κs = long c .0

@@ -2,6 +2,8 @@
 use mathlib.Core.Path.{_≡_}
 use native.Mathlib.Omega.{arith}
 use lib.ListN.{length}
+use Rattle.words.specs.Words.{shapeLength}
+use Rattle.words.specs.Participant.{participantLength}
 use Rattle.recovery_line.proofs.Shells.{two-long}
 use Rattle.recovery_line.proofs.MachineCalls.{first-wrong, first-made, first-refused}
 use borrow.Author.Needs.{needs}
@@ -21,11 +23,11 @@ returns c =
 -- the slices have their lengths
 long : (c : tie.Else1)
     → let a = c .before .before .before .before .before .before .args in
-    (length (a .shape .now) ≡ 17) × (length (a .state .now) ≡ 38)
+    (length (a .shape .now) ≡ shapeLength) × (length (a .state .now) ≡ participantLength)
 long c =
     let at-two-question = c .before in
     let a = at-two-question .before .before .before .before .before .args in
-    two-long 17 38 (a .shape .now) (a .state .now) (at-two-question .two-question .ensures) (c .if1 .left)
+    two-long shapeLength participantLength (a .shape .now) (a .state .now) (at-two-question .two-question .ensures) (c .if1 .left)
 
 shape-in-requires : tie.Need-shape-in-requires
 shape-in-requires c κs = long c .0

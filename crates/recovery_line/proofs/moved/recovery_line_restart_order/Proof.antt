@@ -1,6 +1,7 @@
 -- `recovery_line_restart_order` meets its contract.
 use mathlib.Core.Path.{_≡_}
 use lib.ListN.{length}
+use Rattle.words.specs.Words.{shapeLength, orderLength}
 use Rattle.recovery_line.proofs.Shells.{two-long}
 use Rattle.recovery_line.proofs.MoveCalls.{order-wrong, order-given, order-refused}
 use borrow.Author.Needs.{needs}
@@ -20,11 +21,11 @@ returns c =
 -- the slices have their lengths
 long : (c : tie.Else1)
     → let a = c .before .before .before .before .before .before .args in
-    (length (a .shape .now) ≡ 17) × (length (a .order .now) ≡ 48)
+    (length (a .shape .now) ≡ shapeLength) × (length (a .order .now) ≡ orderLength)
 long c =
     let at-two-question = c .before in
     let a = at-two-question .before .before .before .before .before .args in
-    two-long 17 48 (a .shape .now) (a .order .now) (at-two-question .two-question .ensures) (c .if1 .left)
+    two-long shapeLength orderLength (a .shape .now) (a .order .now) (at-two-question .two-question .ensures) (c .if1 .left)
 
 shape-in-requires : tie.Need-shape-in-requires
 shape-in-requires c κs = long c .0

@@ -2,6 +2,7 @@
 use mathlib.Core.Path.{_≡_}
 use native.Mathlib.Omega.{arith}
 use lib.ListN.{length}
+use Rattle.words.specs.Words.{shapeLength, setLength}
 use Rattle.recovery_line.proofs.Shells.{two-long}
 use Rattle.recovery_line.proofs.SearchCalls.{search-wrong, search-ended, search-refused}
 use borrow.Author.Needs.{needs}
@@ -22,11 +23,11 @@ returns c =
 -- the slices have their lengths
 long : (c : tie.Else1)
     → let a = c .before .before .before .before .before .before .args in
-    (length (a .shape .now) ≡ 17) × (length (a .set .now) ≡ 16)
+    (length (a .shape .now) ≡ shapeLength) × (length (a .set .now) ≡ setLength)
 long c =
     let at-two-question = c .before in
     let a = at-two-question .before .before .before .before .before .args in
-    two-long 17 16 (a .shape .now) (a .set .now) (at-two-question .two-question .ensures) (c .if1 .left)
+    two-long shapeLength setLength (a .shape .now) (a .set .now) (at-two-question .two-question .ensures) (c .if1 .left)
 
 shape-in-requires : tie.Need-shape-in-requires
 shape-in-requires c κs = long c .0
@@ -60,19 +61,19 @@ put-set-requires c κs = omega (arith, long (c .before .before .before .before .
 of-number-requires : tie.Need-of-number-requires
 of-number-requires c κs = search needs
 
-wide-requires : tie.Need-wide-requires
-wide-requires c κs = search needs
+of-tally-requires : tie.Need-of-tally-requires
+of-tally-requires c κs = search needs
 
-wide-requires-2 : tie.Need-wide-requires-2
-wide-requires-2 c κs = search needs
+of-tally-requires-2 : tie.Need-of-tally-requires-2
+of-tally-requires-2 c κs = search needs
 
 same-length : tie.Need-same-length
 same-length c = search needs
 
 returns-3 : tie.Need-returns-3
 returns-3 c =
-    let at-wide = c .before in
-    let at-of-number = at-wide .before in
+    let at-of-tally = c .before in
+    let at-of-number = at-of-tally .before in
     let at-put-set = at-of-number .before .before .before in
     let at-if2 = at-put-set .before .before .before in
     let at-number-of = at-if2 .before in
@@ -88,7 +89,7 @@ returns-3 c =
     (at-number-of .number-of .ensures) (at-search .search .ensures .0) (at-if2 .if2 .left)
     (at-search .search .ensures .1 .0) (at-put-set .put-set .ensures) (at-search .search .ensures .1 .1 .0)
     (at-search .search .ensures .1 .1 .1 .0) (at-search .search .ensures .1 .1 .1 .1 .0)
-    (at-of-number .of-number .ensures) (at-wide .wide .ensures) (c .wide2 .ensures)
+    (at-of-number .of-number .ensures) (at-of-tally .of-tally .ensures) (c .of-tally2 .ensures)
 
 pub recovery-line-search-spec : {M : Type 1} → statement M
 recovery-line-search-spec =
@@ -103,7 +104,7 @@ recovery-line-search-spec =
     returns-2
     put-set-requires
     of-number-requires
-    wide-requires
-    wide-requires-2
+    of-tally-requires
+    of-tally-requires-2
     same-length
     returns-3)

@@ -3,10 +3,11 @@
 use mathlib.Core.Path.{_≡_, refl, sym, ap, _∙_}
 use borrow.Author.Needs.{needs}
 use lib.ListN.{length}
+use Rattle.book.specs.Lent.{lent}
+use Rattle.book.proofs.Starts.{rows-accepted}
 use Rattle.book.specs.declared.Shape.{Shape}
 use Rattle.line_theory.proofs.Accepted.{accepted-few}
 use Rattle.session.specs.Turns.{Ongoing}
-use Rattle.turns.proofs.Turning.{tables-given}
 use Rattle.searches.proofs.Finishing.{Finishing, endOfAll, leftAt, started-rows, tables-accepted, finishing-none, turn-passes, turn-less, turn-more, finishing-all}
 use Rattle.searches.proofs.finish.finish.Statement.{statement}
 use Rattle.searches.proofs.finish.finish.Tie as tie
@@ -14,16 +15,16 @@ use Rattle.searches.proofs.finish.finish.Tie as tie
 abbrev Inv-loop : tie.InvT-loop
 Inv-loop sent received strands₀ rows next₀ p₀ strands next p =
     (length strands ≡ length strands₀)
-    × Finishing (rows .shape) sent received (record { session = next₀; strands = strands₀ }) (record { session = next; strands = strands }) p
+    × Finishing (lent (rows .shape) sent received) (record { session = next₀; strands = strands₀ }) (record { session = next; strands = strands }) p
 
 abbrev μ-loop : tie.MeasureT-loop
-μ-loop sent received strands₀ rows next₀ p₀ strands next p = leftAt (rows .shape) sent received next
+μ-loop sent received strands₀ rows next₀ p₀ strands next p = leftAt (lent (rows .shape) sent received) next
 
 rows-of-requires : tie.Need-rows-of-requires Inv-loop μ-loop
 rows-of-requires c κs =
     let s = c .before .before .before in
     let a = s .args in
-    accepted-few (a .shape) (a .sent .now) (a .received .now) (s .pre .long) (tables-accepted (a .shape) (a .sent .now) (a .received .now) (a .session) (a .strands .now) (s .pre))
+    accepted-few (tables-accepted (lent (a .shape) (a .sent .now) (a .received .now)) (a .session) (a .strands .now) (s .pre))
 
 lowest-waiting-requires : tie.Need-lowest-waiting-requires Inv-loop μ-loop
 lowest-waiting-requires c κs = search needs
@@ -34,7 +35,7 @@ loop-holds c =
     let s = c .before .before .before .before .before .before in
     let a = s .args in (
       refl,
-      finishing-none (rows .result .shape) (a .sent .now) (a .received .now) (a .session) (a .strands .now) (c .lowest-waiting .result)
+      finishing-none (lent (rows .result .shape) (a .sent .now) (a .received .now)) (a .session) (a .strands .now) (c .lowest-waiting .result)
           (started-rows (a .shape) (rows .result .shape) (a .sent .now) (a .received .now) (a .session) (a .strands .now) (rows .ensures .0) (s .pre))
           (c .lowest-waiting .ensures (a .session) refl),
     )
@@ -45,11 +46,8 @@ take-turn-requires c κs =
     let rows = l .before .before .before .rows-of in
     let s = l .before .before .before .before .before .before .before in
     let a = s .args in (
-      tables-given (a .shape) (a .sent .now) (a .received .now) (rows .result)
-          (tables-accepted (a .shape) (a .sent .now) (a .received .now) (a .session) (a .strands .now) (s .pre))
-          (rows .ensures .0)
-          (rows .ensures .1),
-      turn-passes (rows .result .shape) (a .sent .now) (a .received .now) (record { session = a .session; strands = a .strands .now })
+      rows-accepted (tables-accepted (lent (a .shape) (a .sent .now) (a .received .now)) (a .session) (a .strands .now) (s .pre)) (rows .ensures),
+      turn-passes (lent (rows .result .shape) (a .sent .now) (a .received .now)) (record { session = a .session; strands = a .strands .now })
           (record { session = l .loop .next; strands = l .loop .strands }) (l .loop .p) (l .loop .inv .1) (c .before .if1 .taken),
     )
 
@@ -62,7 +60,7 @@ loop-less c =
     let l = t .before .before .before .before in
     let rows = l .before .before .before .rows-of in
     let a = l .before .before .before .before .before .before .before .args in
-    turn-less (rows .result .shape) (a .sent .now) (a .received .now) (record { session = a .session; strands = a .strands .now })
+    turn-less (lent (rows .result .shape) (a .sent .now) (a .received .now)) (record { session = a .session; strands = a .strands .now })
     (record { session = l .loop .next; strands = l .loop .strands }) (l .loop .p) (l .loop .inv .1) (t .before .before .if1 .taken)
     (t .take-turn .result) (t .take-turn .last .1 .1 .1 .1 .1 .0) (t .take-turn .ensures .0) (t .take-turn .ensures .1)
 
@@ -73,7 +71,7 @@ loop-again c =
     let rows = l .before .before .before .rows-of in
     let a = l .before .before .before .before .before .before .before .args in (
       t .take-turn .kept .1 .1 .1 .1 .1 .0 ∙ l .loop .inv .0,
-      turn-more (rows .result .shape) (a .sent .now) (a .received .now) (record { session = a .session; strands = a .strands .now })
+      turn-more (lent (rows .result .shape) (a .sent .now) (a .received .now)) (record { session = a .session; strands = a .strands .now })
           (record { session = l .loop .next; strands = l .loop .strands }) (l .loop .p) (l .loop .inv .1) (t .before .before .if1 .taken)
           (t .take-turn .result) (t .take-turn .last .1 .1 .1 .1 .1 .0) (t .take-turn .ensures .0) (t .take-turn .ensures .1)
           (c .lowest-waiting2 .result)
@@ -89,8 +87,8 @@ returns c =
     let rows = l .before .before .before .rows-of in
     let a = l .before .before .before .before .before .before .before .args in
     sym (ap (λ (o : Ongoing). o .session)
-    (ap (λ (t : Shape). endOfAll t (a .sent .now) (a .received .now) (record { session = a .session; strands = a .strands .now })) (sym (rows .ensures .0))
-    ∙ finishing-all (rows .result .shape) (a .sent .now) (a .received .now) (record { session = a .session; strands = a .strands .now })
+    (ap (λ (t : Shape). endOfAll (lent t (a .sent .now) (a .received .now)) (record { session = a .session; strands = a .strands .now })) (sym (rows .ensures .0))
+    ∙ finishing-all (lent (rows .result .shape) (a .sent .now) (a .received .now)) (record { session = a .session; strands = a .strands .now })
     (record { session = l .loop .next; strands = l .loop .strands }) (l .loop .p) (l .loop .inv .1) (c .if1 .left)))
 
 pub finish-spec : {M : Type 1} → statement M

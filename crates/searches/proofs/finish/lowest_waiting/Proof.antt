@@ -2,7 +2,8 @@
 use Prim.Native.Nat.{_-_}
 use native.Mathlib.Omega.{arith}
 use borrow.Author.Needs.{needs}
-use Rattle.searches.proofs.Lowest.{NoneYet, none-yet, none-more, lowest-in, none-in}
+use Rattle.lists.proofs.Before.{before-none, before-more}
+use Rattle.searches.proofs.Lowest.{NoneYet, lowest-in, none-in}
 use Rattle.searches.proofs.finish.lowest_waiting.Statement.{statement}
 use Rattle.searches.proofs.finish.lowest_waiting.Tie as tie
 
@@ -13,7 +14,7 @@ abbrev μ-loop : tie.MeasureT-loop
 μ-loop lengths k₀ k = 16 - k
 
 loop-holds : tie.Need-loop-holds Inv-loop μ-loop
-loop-holds c = none-yet (c .args .t1)
+loop-holds c = before-none
 
 mul-if1 : tie.Need-mul-if1 Inv-loop μ-loop
 mul-if1 c = omega arith
@@ -36,9 +37,7 @@ loop-less : tie.Need-loop-less Inv-loop μ-loop
 loop-less c = search needs
 
 loop-again : tie.Need-loop-again Inv-loop μ-loop
-loop-again c =
-    none-more (c .before .before .before .args .t1) (c .before .before .loop .k)
-    (c .before .before .loop .inv) (c .before .loop-test .taken) (c .if1 .left)
+loop-again c = before-more (c .before .before .loop .inv) (c .before .loop-test .taken) (c .if1 .left)
 
 returns-2 : tie.Need-returns-2 Inv-loop μ-loop
 returns-2 c =

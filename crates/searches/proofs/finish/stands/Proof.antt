@@ -1,18 +1,20 @@
 -- `stands` meets its contract. The invariant: the set has the checkpoints of the workers so far.
-use mathlib.Core.Path.{_≡_, refl, ap, _∙_}
+use mathlib.Core.Path.{_≡_, refl, _∙_}
 use mathlib.Core.Logic.{⊎-elim}
 use Prim.Native.Nat.{_-_}
 use native.Mathlib.Omega.{arith}
 use borrow.Author.Needs.{needs}
 use lib.ListN.{length, length-map}
-use Rattle.book.specs.declared.Checkpoint.{Checkpoint}
-use Rattle.session.specs.Workers.{standsOn}
-use Rattle.searches.proofs.Sets.{standsBy, stands-own, stands-other, Filled, filled-none, filled-more, filled-all}
+use Rattle.lists.proofs.Filling.{Filled, filled-none, filled-more, filled-all}
+use Rattle.book.proofs.Values.{checkpoint, checkpoint-of}
+use Rattle.finder.specs.Line.{checkpoints}
+use Rattle.searches.proofs.Sets.{standsBy, stands-own, stands-other}
 use Rattle.searches.proofs.finish.stands.Statement.{statement}
 use Rattle.searches.proofs.finish.stands.Tie as tie
 
 abbrev Inv-loop : tie.InvT-loop
-Inv-loop participants machine own set₀ j₀ set j = Filled (standsBy participants machine own) set j
+Inv-loop participants machine own set₀ j₀ set j =
+    Filled (checkpoint 0) set₀ 16 (λ i. checkpoint (standsBy participants machine own i)) set j
 
 abbrev μ-loop : tie.MeasureT-loop
 μ-loop participants machine own set₀ j₀ set j = 16 - j
@@ -24,7 +26,7 @@ sub-own : tie.Need-sub-own Inv-loop μ-loop
 sub-own c = c .before .before .before .pre
 
 loop-holds : tie.Need-loop-holds Inv-loop μ-loop
-loop-holds c = filled-none (standsOn (c .before .before .before .args .session)) _ refl
+loop-holds c = filled-none (omega arith)
 
 mul-participant : tie.Need-mul-participant Inv-loop μ-loop
 mul-participant c = omega arith
@@ -48,19 +50,18 @@ loop-again : tie.Need-loop-again Inv-loop μ-loop
 loop-again c =
     let s = c .before .before .before .before .before .before .before .args .session in
     let at-loop = c .before .before .before .loop in
-    filled-more (standsOn s) (at-loop .set) (at-loop .j) (c .if1 .set) (at-loop .inv) (c .before .before .loop-test .taken)
+    filled-more (at-loop .inv) (c .before .before .loop-test .taken)
     (⊎-elim
-    (λ w. ap (λ (r : Checkpoint). r .0) (w .2) ∙ stands-own (s .participants) (s .machine) (s .initiator .0 - 1) (at-loop .j) (w .0 .taken))
+    (λ w. w .2 ∙ checkpoint-of (stands-own (s .participants) (s .machine) (s .initiator .0 - 1) (at-loop .j) (w .0 .taken)))
     (λ w.
-    ap (λ (r : Checkpoint). r .0) (w .2)
-    ∙ stands-other (s .participants) (s .machine) (s .initiator .0 - 1) (at-loop .j) (w .0 .left)
-    (omega (arith, long (c .before .before .before .before .before .before .before), c .before .before .loop-test .taken)))
+    w .2
+    ∙ checkpoint-of (stands-other (s .participants) (s .machine) (s .initiator .0 - 1) (at-loop .j) (w .0 .left)
+    (omega (arith, long (c .before .before .before .before .before .before .before), c .before .before .loop-test .taken))))
     (c .if1 .came))
 
 returns : tie.Need-returns Inv-loop μ-loop
-returns c =
-    filled-all (standsOn (c .before .before .before .before .before .args .session)) (c .before .loop .set) (c .before .loop .j)
-    (c .before .loop .inv) (c .loop-test .left)
+unfolding checkpoints
+returns c = filled-all (c .before .loop .inv) refl (c .loop-test .left)
 
 pub stands-spec : {M : Type 1} → statement M
 stands-spec =

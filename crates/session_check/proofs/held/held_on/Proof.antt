@@ -8,7 +8,7 @@ use Rattle.strands.specs.Strands.{lengthOn}
 use Rattle.session.specs.Workers.{participantAt}
 use Rattle.session.specs.Fits.{strandWithin}
 use Rattle.session_check.specs.Parts.{bytesOn, Told}
-use Rattle.session_check.proofs.Chains.{told-no, told-yes}
+use Rattle.lists.proofs.Tests.{told-no, told-yes}
 use Rattle.session_check.proofs.Naming.{read-at}
 use Rattle.session_check.proofs.Holding.{held-below, held-above}
 use Rattle.session_check.proofs.held.held_on.Statement.{statement}

@@ -6,7 +6,7 @@ use borrow.Author.Needs.{needs}
 use Rattle.message.specs.Formed.{messageFormed}
 use Rattle.initiator.specs.Calls.{messageQuestion}
 use Rattle.initiator.proofs.Calls.{sender-there, not-formed, is-formed}
-use Rattle.session_check.proofs.Chains.{told-no, told-yes}
+use Rattle.lists.proofs.Tests.{told-no, told-yes}
 use Rattle.session_check.proofs.Holding.{up-stray, up-report}
 use Rattle.session_check.proofs.held.held_up.Statement.{statement}
 use Rattle.session_check.proofs.held.held_up.Tie as tie

@@ -3,26 +3,27 @@ use mathlib.Core.Path.{refl}
 use Prim.Native.Nat.{_-_}
 use native.Mathlib.Omega.{arith}
 use borrow.Author.Needs.{needs}
+use Rattle.book.specs.Bounds.{mostProcesses}
 use Rattle.participant.specs.Calls.{noParticipant}
 use Rattle.words.specs.Words.{word}
 use Rattle.words.specs.Session.{placeStart, placesAt}
 use Rattle.words.specs.Participant.{participantFrom}
-use Rattle.words.proofs.Filling.{Filled, filled-none, filled-more, filled-all}
+use Rattle.lists.proofs.Filling.{Filled, filled-none, filled-more, filled-all}
 use Rattle.state_words.proofs.sessions.places_at.Statement.{statement}
 use Rattle.state_words.proofs.sessions.places_at.Tie as tie
 
 abbrev Inv-loop : tie.InvT-loop
 Inv-loop words places₀ k₀ places k =
-    Filled noParticipant 16 (λ j. participantFrom (word words (placeStart j)) words (placeStart j)) places k
+    Filled noParticipant places₀ mostProcesses (λ j. participantFrom (word words (placeStart j)) words (placeStart j)) places k
 
 abbrev μ-loop : tie.MeasureT-loop
-μ-loop words places₀ k₀ places k = 16 - k
+μ-loop words places₀ k₀ places k = mostProcesses - k
 
 no-participant-requires : tie.Need-no-participant-requires Inv-loop μ-loop
 no-participant-requires c κs = search needs
 
 loop-holds : tie.Need-loop-holds Inv-loop μ-loop
-loop-holds c = filled-none refl
+loop-holds c = filled-none (omega arith)
 
 place-start-requires : tie.Need-place-start-requires Inv-loop μ-loop
 place-start-requires c κs = search needs
@@ -54,13 +55,13 @@ loop-less c = search needs
 loop-again : tie.Need-loop-again Inv-loop μ-loop
 loop-again c =
     let start = c .before .before .before in
-    let turn = start .before in
-    filled-more (turn .before .loop .inv) (turn .loop-test .taken) _
+    let pass = start .before in
+    filled-more (pass .before .loop .inv) (pass .loop-test .taken)
     (rw (c .before .number .ensures, start .place-start .ensures) at (c .participant-at .ensures))
 
 returns : tie.Need-returns Inv-loop μ-loop
 unfolding placesAt
-returns c = filled-all (c .before .loop .inv) (c .loop-test .left)
+returns c = filled-all (c .before .loop .inv) refl (c .loop-test .left)
 
 pub places-at-spec : {M : Type 1} → statement M
 places-at-spec =

@@ -1,25 +1,25 @@
 -- `places_decode` meets its contract. The invariant: the participants so far decode.
-use mathlib.Core.Path.{_≡_, sym, _∙_}
-use mathlib.Core.Bool.{Bool, true, false}
-use Prim.Native.Nat.{ℕ, _-_, _≤_, _<_}
+use mathlib.Core.Path.{_≡_}
+use mathlib.Core.Bool.{true}
+use Prim.Native.Nat.{_-_}
 use native.Mathlib.Omega.{arith}
-use borrow.Author.Tests.{not-true, not-false}
 use borrow.Author.Needs.{needs}
-use Rattle.lists.proofs.Over.{all-out, all-not}
-use Rattle.lists.proofs.Fills.{below-more}
+use Rattle.book.specs.Bounds.{mostProcesses}
+use Rattle.lists.proofs.Tests.{told-no, told-yes}
+use Rattle.lists.proofs.Before.{Before, before-none, before-more, all-pass, one-fails}
 use Rattle.words.specs.Session.{placeStart, placesDecode}
 use Rattle.words.specs.Participant.{participantDecodes}
 use Rattle.state_words.proofs.sessions.places_decode.Statement.{statement}
 use Rattle.state_words.proofs.sessions.places_decode.Tie as tie
 
 abbrev Inv-loop : tie.InvT-loop
-Inv-loop words k₀ k = (k ≤ 16) × ((j : ℕ) → j < k → participantDecodes words (placeStart j) ≡ true)
+Inv-loop words k₀ k = Before mostProcesses (λ j. participantDecodes words (placeStart j) ≡ true) k
 
 abbrev μ-loop : tie.MeasureT-loop
-μ-loop words k₀ k = 16 - k
+μ-loop words k₀ k = mostProcesses - k
 
 loop-holds : tie.Need-loop-holds Inv-loop μ-loop
-loop-holds c = (omega arith, λ j h. absurd (omega arith))
+loop-holds c = before-none
 
 place-start-requires : tie.Need-place-start-requires Inv-loop μ-loop
 place-start-requires c κs = search needs
@@ -30,11 +30,8 @@ participant-decodes-requires c κs = search needs
 returns : tie.Need-returns Inv-loop μ-loop
 unfolding placesDecode
 returns c =
-    let decodes = c .before .participant-decodes in
-    let l = c .before .before .before .before in
-    let f : ℕ → Bool = λ j. participantDecodes (l .before .before .args .words .now) (placeStart j) in
-    let here : f (l .loop .k) ≡ false = rw (c .before .before .place-start .ensures) at (sym (decodes .ensures) ∙ not-true (decodes .result) (c .if1 .taken)) in
-    sym (all-not 16 f (l .loop .k) (c .before .before .before .loop-test .taken) here)
+    let decodes = told-no (c .before .participant-decodes .ensures) (c .if1 .taken) in
+    one-fails (c .before .before .before .before .loop .inv) (c .before .before .before .loop-test .taken) (rw (c .before .before .place-start .ensures) at decodes)
 
 add-k : tie.Need-add-k Inv-loop μ-loop
 add-k c = omega arith
@@ -44,17 +41,12 @@ loop-less c = search needs
 
 loop-again : tie.Need-loop-again Inv-loop μ-loop
 loop-again c =
-    let decodes = c .before .participant-decodes in
-    let l = c .before .before .before .before in
-    let P : ℕ → Type 0 = λ j. participantDecodes (l .before .before .args .words .now) (placeStart j) ≡ true in
-    let here : P (l .loop .k) = rw (c .before .before .place-start .ensures) at (sym (decodes .ensures) ∙ not-false (decodes .result) (c .if1 .left)) in
-    (omega arith, below-more P (l .loop .k) (l .loop .inv .1) here)
+    let decodes = told-yes (c .before .participant-decodes .ensures) (c .if1 .left) in
+    before-more (c .before .before .before .before .loop .inv) (c .before .before .before .loop-test .taken) (rw (c .before .before .place-start .ensures) at decodes)
 
 returns-2 : tie.Need-returns-2 Inv-loop μ-loop
 unfolding placesDecode
-returns-2 c =
-    let f : ℕ → Bool = λ j. participantDecodes (c .before .before .before .args .words .now) (placeStart j) in
-    sym (all-out 16 f (λ j h. c .before .loop .inv .1 j (omega arith)))
+returns-2 c = all-pass (c .before .loop .inv) (c .loop-test .left)
 
 pub places-decode-spec : {M : Type 1} → statement M
 places-decode-spec =

@@ -2,6 +2,7 @@
 use Prim.Native.Nat.{_-_}
 use native.Mathlib.Omega.{arith}
 use borrow.Author.Needs.{needs}
+use Rattle.book.specs.Bounds.{mostProcesses}
 use Rattle.session.proofs.Places.{beyond}
 use Rattle.state_words.proofs.Places.{Placed, placed-none, placed-more, placed-all}
 use Rattle.state_words.proofs.sessions.put_places.Statement.{statement}
@@ -11,7 +12,7 @@ abbrev Inv-loop : tie.InvT-loop
 Inv-loop words₀ places k₀ words k = Placed places words₀ words k
 
 abbrev μ-loop : tie.MeasureT-loop
-μ-loop words₀ places k₀ words k = 16 - k
+μ-loop words₀ places k₀ words k = mostProcesses - k
 
 loop-holds : tie.Need-loop-holds Inv-loop μ-loop
 loop-holds c = placed-none
@@ -38,8 +39,8 @@ loop-again : tie.Need-loop-again Inv-loop μ-loop
 loop-again c =
     let put = c .before .before in
     let start = put .before .before .before in
-    let turn = start .before in
-    placed-more (turn .before .loop .inv) (turn .loop-test .taken) (omega arith) beyond (start .place-start .ensures) (put .put-participant .ensures)
+    let pass = start .before in
+    placed-more (pass .before .loop .inv) (pass .loop-test .taken) (omega arith) beyond (start .place-start .ensures) (put .put-participant .ensures)
 
 same-length : tie.Need-same-length Inv-loop μ-loop
 same-length c = c .before .loop .inv .same

@@ -5,8 +5,9 @@ use Prim.Native.Nat.{ℕ}
 use native.Mathlib.Omega.{arith}
 use borrow.Author.Needs.{needs}
 use lib.ListN.{length, set, length-set, length-append}
+use Rattle.book.specs.Bounds.{mostProcesses}
 use Rattle.lists.proofs.Over.{length-tab}
-use Rattle.words.specs.Session.{placeWords, sessionWords}
+use Rattle.words.specs.Session.{machineStart, placeStart, lengthsStart, deliveredAt, sessionLength, placeWords, sessionWords}
 use Rattle.words.specs.Plain.{numberWords}
 use Rattle.words.specs.Initiator.{initiatorWords}
 use Rattle.words.proofs.Storing.{sets-then, sets-all}
@@ -33,7 +34,7 @@ put-initiator-requires : tie.Need-put-initiator-requires
 put-initiator-requires c κs = simp length-set (omega arith)
 
 -- the slice keeps its length
-long : (c : tie.After-put-initiator) → length (c .put-initiator .last .1 .0) ≡ 1162
+long : (c : tie.After-put-initiator) → length (c .put-initiator .last .1 .0) ≡ sessionLength
 long c = omega (arith, simp length-set at (c .put-initiator .kept .1 .0))
 
 put-places-requires : tie.Need-put-places-requires
@@ -42,8 +43,8 @@ put-places-requires c κs = long (c .before .before .before)
 put-numbers-requires : tie.Need-put-numbers-requires
 put-numbers-requires c κs = omega (arith, long (c .before .before .before .before .before .before .before))
 
-wide-requires : tie.Need-wide-requires
-wide-requires c κs = search needs
+of-tally-requires : tie.Need-of-tally-requires
+of-tally-requires c κs = search needs
 
 slice-write-words-4 : tie.Need-slice-write-words-4
 slice-write-words-4 c = omega (arith, long (c .before .before .before .before .before .before .before .before .before .before .before))
@@ -66,17 +67,17 @@ returns c =
     let session = a .session in
     let first : List ℕ = n .of-number .result ∷ (initiator .of-number2 .result ∷ (session .purpose ∷ [])) in
     let second = initiatorWords (session .machine) in
-    let third = placeWords (session .participants) 16 in
+    let third = placeWords (session .participants) mostProcesses in
     let fourth = numberWords (session .lengths) in
     let fifth : List ℕ = session .delivered ∷ [] in
     rw (n .of-number .ensures, initiator .of-number2 .ensures) at
     (sets-all (first ++ (second ++ (third ++ (fourth ++ fifth)))) (a .words .now)
     (simp (length-append, length-initiator, length-places, length-tab) (omega (arith, start .pre)))
     (sets-then first (second ++ (third ++ (fourth ++ fifth))) (a .words .now) 0 refl refl
-    (sets-then second (third ++ (fourth ++ fifth)) _ 3 (machine .put-initiator .ensures) (simp length-initiator)
-    (sets-then third (fourth ++ fifth) (machine .put-initiator .last .1 .0) 537 (places .put-places .ensures) (simp length-places)
-    (sets-then fourth fifth (places .put-places .last .1 .0) 1145 {next = 1161} (lengths .put-numbers .ensures) (simp length-tab)
-    (ap (set (lengths .put-numbers .last .1 .0) 1161) (c .wide .ensures)))))))
+    (sets-then second (third ++ (fourth ++ fifth)) _ machineStart (machine .put-initiator .ensures) (simp length-initiator)
+    (sets-then third (fourth ++ fifth) (machine .put-initiator .last .1 .0) (placeStart 0) (places .put-places .ensures) (simp length-places)
+    (sets-then fourth fifth (places .put-places .last .1 .0) lengthsStart {next = deliveredAt} (lengths .put-numbers .ensures) (simp length-tab)
+    (ap (set (lengths .put-numbers .last .1 .0) deliveredAt) (c .of-tally .ensures)))))))
 
 pub put-session-spec : {M : Type 1} → statement M
 put-session-spec =
@@ -90,7 +91,7 @@ put-session-spec =
     put-initiator-requires
     put-places-requires
     put-numbers-requires
-    wide-requires
+    of-tally-requires
     slice-write-words-4
     same-length
     returns)

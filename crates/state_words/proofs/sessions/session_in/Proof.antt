@@ -31,11 +31,11 @@ number-requires-2 c κs = search needs
 shared-slice-read-t12 : tie.Need-shared-slice-read-t12
 shared-slice-read-t12 c = search needs
 
-shared-slice-read-low : tie.Need-shared-slice-read-low
-shared-slice-read-low c = search needs
+shared-slice-read-tally-in : tie.Need-shared-slice-read-tally-in
+shared-slice-read-tally-in c = search needs
 
-low-requires : tie.Need-low-requires
-low-requires c κs = search needs
+tally-in-requires : tie.Need-tally-in-requires
+tally-in-requires c κs = search needs
 
 returns : tie.Need-returns
 unfolding sessionIn
@@ -46,7 +46,7 @@ returns c =
     let machine = places .before in
     let size = machine .before .before .before in
     rw (
-      c .low .ensures,
+      c .tally-in .ensures,
       initiator .number2 .ensures,
       lengths .numbers-at .ensures,
       places .places-at .ensures,
@@ -68,6 +68,6 @@ session-in-spec =
     shared-slice-read-number-2
     number-requires-2
     shared-slice-read-t12
-    shared-slice-read-low
-    low-requires
+    shared-slice-read-tally-in
+    tally-in-requires
     returns)

@@ -6,6 +6,7 @@ use mathlib.Core.List.{List}
 use Prim.Native.Nat.{ℕ, _+_, _≤_, _<_}
 use native.Mathlib.Omega.{arith}
 use lib.ListN.{length}
+use Rattle.book.specs.Lent.{lent}
 use Rattle.line_theory.proofs.Accepted.{accepted-size}
 use Rattle.strands.specs.Strands.{lengthOn}
 use Rattle.session.specs.Workers.{initiatorOf}
@@ -16,11 +17,8 @@ use Rattle.turns.proofs.Delivering.{fits-size, fits-within, deliverable
 use Rattle.turns.proofs.deliver.deliver.Statement.{statement}
 use Rattle.turns.proofs.deliver.deliver.Tie as tie
 
-counts-long : (c : tie.Start) → length (c .args .rows .shape .counts) ≡ 16
-counts-long c = search needs
-
 size : (c : tie.Start) → let n = c .args .rows .shape .n in (1 ≤ n) × (n ≤ 16)
-size c = let a = c .args in accepted-size (a .rows .shape) (a .sent .now) (a .received .now) (c .pre .0 .accepted)
+size c = accepted-size (c .pre .0 .accepted)
 
 few : (c : tie.Start) → c .args .k < 16
 few c =
@@ -31,7 +29,7 @@ few c =
 within : (c : tie.Start) → let a = c .args in strandWithin (a .rows .shape .n) (a .session) (a .strands .now) (a .k) ≡ true
 within c =
     let a = c .args in
-    fits-within (a .rows .shape) (a .sent .now) (a .received .now) (a .session) (a .strands .now) (c .pre .1 .0) (a .k) (c .pre .1 .1 .1 .0) (few c)
+    fits-within (lent (a .rows .shape) (a .sent .now) (a .received .now)) (a .session) (a .strands .now) (c .pre .1 .0) (a .k) (c .pre .1 .1 .1 .0) (few c)
 
 ends : (c : tie.After-strand-start) → let a = c .before .before .before .before .before .before .before .before .args in
     c .strand-start .result + lengthOn (a .session .lengths) (a .k) ≤ length (a .strands .now)
@@ -60,7 +58,7 @@ held-on-requires : tie.Need-held-on-requires
 held-on-requires c κs =
     let at = c .before .before .before .before .before .before .before .before in
     let a = at .args in
-    let same = fits-size (a .rows .shape) (a .sent .now) (a .received .now) (a .session) (a .strands .now) (at .pre .1 .0) in
+    let same = fits-size (lent (a .rows .shape) (a .sent .now) (a .received .now)) (a .session) (a .strands .now) (at .pre .1 .0) in
     ((size at .0, (size at .1, same)), ((at .pre .1 .1 .0 .0, few at), within at))
 
 sub-hand-over : tie.Need-sub-hand-over
@@ -79,7 +77,7 @@ hand-over-requires c κs =
     let pre = at .pre in
     let start = c .before .before .strand-start in
     let bytes = part-is (a .rows .shape .n) (a .session) (a .strands .now) (a .k) (start .result) (start .ensures .0) in (
-      deliverable (a .rows) (a .sent .now) (a .received .now) (a .session) (a .strands .now) (a .k) (counts-long at) (pre .0) (pre .1 .0) (pre .1 .1 .0)
+      deliverable (a .rows) (a .sent .now) (a .received .now) (a .session) (a .strands .now) (a .k) (pre .0) (pre .1 .0) (pre .1 .1 .0)
           (pre .1 .1 .1 .0),
       c .before .held-on .ensures ∙ ap (λ (s : List ℕ). held (a .rows .shape .n) (a .session) (a .k) s) (sym bytes),
     )
@@ -88,7 +86,7 @@ returns : tie.Need-returns
 returns c =
     let a = c .before .before .before .before .before .before .before .before .before .before .before .args in
     let start = c .before .before .before .strand-start in
-    handed-over (a .rows .shape) (a .sent .now) (a .received .now) (a .session) (a .k) _
+    handed-over (lent (a .rows .shape) (a .sent .now) (a .received .now)) (a .session) (a .k) _
     (waitingBytes (a .rows .shape .n) (a .session) (a .strands .now) (a .k))
     (c .before .before .held-on .result)
     (c .hand-over .result)
