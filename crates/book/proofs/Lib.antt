@@ -4,6 +4,7 @@ pub mod Before
 pub mod Counters
 pub mod Counts
 pub mod Fits
+pub mod Names
 pub mod Questions
 pub mod Rows
 pub mod Starts

@@ -12,7 +12,7 @@ use Rattle.line_theory.specs.Sets.{View, IsSet, Consistent}
 use Rattle.line_theory.specs.Search.{line, passed}
 use Rattle.line_theory.proofs.Accepted.{accepted-size}
 use Rattle.lists.specs.Pick.{pick}
-use Rattle.message.proofs.Heads.{named-in}
+use Rattle.book.proofs.Names.{named-in}
 use Rattle.machine.specs.Flags.{someone}
 use Rattle.strands.specs.Strands.{roomForAll}
 use Rattle.session.specs.declared.Session.{Session}

@@ -21,7 +21,7 @@ use Rattle.book.specs.Names.{isNamed, isPurpose}
 use Rattle.message.specs.Formed.{beginFormed, numbersFormed, numbersIn, messageOf, messageFormed}
 use Rattle.message.specs.Read.{noMessage, messageRead}
 use Rattle.message.proofs.Messages.{head-sender}
-use Rattle.message.proofs.Heads.{named-in}
+use Rattle.book.proofs.Names.{named-in}
 use Rattle.machine.specs.Own.{Own, ownOf}
 use Rattle.machine.proofs.Answers.{Returned, Told, Answered}
 use Rattle.initiator.specs.declared.Initiator.{Initiator}

@@ -1,13 +1,13 @@
 -- Laws of functions of the numbers below a bound: true of all of them, added up, as a list; and of the last number at which
 -- one is true.
-use mathlib.Core.Path.{_≡_, refl, sym, ap, _∙_}
+use mathlib.Core.Path.{_≡_, refl, sym, ap, subst, _∙_}
 use mathlib.Core.Bool.{Bool, true, false, true≢false}
 use mathlib.Core.List.{List, [], _∷_, _++_}
 use Prim.Native.Nat.{ℕ, zero, suc, _+_, _-_, _≤_, _<_}
-use native.Mathlib.Decide.{decLt}
+use native.Mathlib.Decide.{decLt, ℕ-discrete}
 use native.Mathlib.Omega.{arith}
-use lib.ListN.{length, getD, replicate, length-replicate, getD-replicate, List·getD-eq-default}
-use lib.Seq.{ext-getD}
+use lib.ListN.{length, getD, set, replicate, length-set, length-replicate, getD-replicate, List·getD-eq-default}
+use lib.Seq.{ext-getD, getD-set-same, getD-set-other}
 use Rattle.lists.proofs.Tests.{and-both, both-and, both-ways}
 use Rattle.lists.specs.Over.{allTo, sumTo, tabFrom, tab, lastTo}
 
@@ -151,6 +151,18 @@ replicate-at size d i =
 pub tab-is : {A : Type 0} (d : A) (k : ℕ) (f : ℕ → A) (l : List A) → length l ≡ k → ((i : ℕ) → i < k → getD l i d ≡ f i) → l ≡ tab k f
 tab-is d k f l long same =
     ext-getD d l (tab k f) (long ∙ sym (length-tab k f)) (λ i h. same i (omega (arith, long)) ∙ sym (getD-tab k f i d (omega (arith, long))))
+
+-- one value changed
+pub tab-stored : {A : Type 0} (d : A) (k : ℕ) (f g : ℕ → A) (i : ℕ) (v : A) → i < k → v ≡ g i
+    → ((x : ℕ) → x < k → (x ≡ i → ⊥) → f x ≡ g x) → set (tab k f) i v ≡ tab k g
+tab-stored d k f g i v h here others =
+    tab-is d k g (set (tab k f) i v) (length-set (tab k f) i v ∙ length-tab k f) (λ x m.
+    elim (ℕ-discrete x i) [
+      | yes e ↦
+          subst (λ (y : ℕ). getD (set (tab k f) i v) y d ≡ g y) (sym e)
+          (getD-set-same (tab k f) i v d (omega (arith, length-tab k f)) ∙ here)
+      | no ne ↦ getD-set-other (tab k f) i x v d ne ∙ getD-tab k f x d m ∙ others x m ne
+    ])
 
 tab-last-from : {A : Type 0} (i k : ℕ) (f : ℕ → A) → tabFrom i (suc k) f ≡ tabFrom i k f ++ (f (i + k) ∷ [])
 unfolding tabFrom

@@ -13,7 +13,7 @@ use Rattle.matrix.specs.Matrix.{isPair}
 use Rattle.message.specs.declared.Message.{Message}
 use Rattle.book.specs.Names.{isPurpose, isNamed}
 use Rattle.message.specs.Formed.{isKind, headFormed, participantEnd}
-use Rattle.message.proofs.Heads.{named-in}
+use Rattle.book.proofs.Names.{named-in}
 use Rattle.message_laws.specs.Formed.{IsFormed}
 use Rattle.machine_laws.proofs.Pairs.{no-pair}
 

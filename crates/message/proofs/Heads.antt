@@ -2,15 +2,15 @@
 use mathlib.Core.Path.{_≡_, refl, ap, _∙_}
 use mathlib.Core.Bool.{true, false, _||_, not}
 use mathlib.Core.List.{List, _∷_}
-use Prim.Native.Nat.{ℕ, _≤_}
-use lib.Dec.{leb, eqb}
-use borrow.Author.Tests.{leb-true, ne-eqb}
+use Prim.Native.Nat.{ℕ}
+use lib.Dec.{eqb}
+use borrow.Author.Tests.{ne-eqb}
 use Rattle.varint.specs.declared.Numeral.the-variants.{Number, Refused}
 use Rattle.varint.specs.Number.{readNumber}
 use Rattle.varint.specs.Sequence.{Numbers}
 use Rattle.varint.proofs.Sequence.{numbers-none, numbers-more}
 use Rattle.book.specs.Bounds.{groups, largest}
-use Rattle.lists.proofs.Tests.{and-both, and-first, and-second}
+use Rattle.lists.proofs.Tests.{and-first, and-second}
 use Rattle.book.specs.Read.{numbersFrom}
 use Rattle.message.specs.declared.HeadRead.the-variants.{Found}
 use Rattle.book.specs.Names.{isPurpose, isNamed}
@@ -24,10 +24,6 @@ is-kind-1 kind e = rw e
 
 pub is-kind-2 : (kind : ℕ) → kind ≡ 2 → isKind kind ≡ true
 is-kind-2 kind e = rw e
-
-pub named-in : (n process : ℕ) → isNamed n process ≡ true → (1 ≤ process) × (process ≤ n)
-named-in n process e =
-    let both = and-both (leb 1 process) (leb process n) e in (leb-true 1 process (both .0), leb-true process n (both .1))
 
 module _ (n kind purpose sender : ℕ) where
   pub head-no-kind : (kind ≡ 1 → ⊥) → (kind ≡ 2 → ⊥) → headFormed n kind purpose sender ≡ false

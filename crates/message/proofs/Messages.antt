@@ -20,7 +20,7 @@ use Rattle.book.specs.Names.{isPurpose, isNamed}
 use Rattle.message.specs.Formed.{isKind, headFormed, participantEnd, beginFormed, countedFormed, newsCounted, invitationFormed, numbersFormed, numbersIn, messageOf, messageFormed}
 use Rattle.message.specs.Parts.{HeadFound, PairsFound}
 use Rattle.message.specs.Read.{noMessage, messageRead}
-use Rattle.message.proofs.Heads.{named-in}
+use Rattle.book.proofs.Names.{named-in}
 
 -- ---- an invitation's pairs
 

@@ -10,7 +10,7 @@ use Rattle.lists.proofs.Tests.{and-both, both-and, and-first, and-second, and-r
 use Rattle.matrix.specs.Matrix.{notKnownRow}
 use Rattle.matrix.specs.Entries.{same, restZero}
 use Rattle.book.specs.Names.{isNamed}
-use Rattle.message.proofs.Heads.{named-in}
+use Rattle.book.proofs.Names.{named-in}
 use Rattle.machine.specs.Own.{Own, hasCheckpoint, sentRow, newestPermitted}
 use Rattle.machine.specs.Named.{participantNamed}
 use Rattle.participant.specs.declared.Participant.{Participant}

@@ -15,7 +15,7 @@ use Rattle.matrix.specs.Entries.{same, restZero, patch}
 use Rattle.matrix.proofs.Theorems.{same-is-same, patch-not-raised}
 use Rattle.message.specs.declared.Message.{Message}
 use Rattle.book.specs.Names.{isNamed}
-use Rattle.message.proofs.Heads.{named-in}
+use Rattle.book.proofs.Names.{named-in}
 use Rattle.machine.specs.Own.{Own, hasCheckpoint, sentRow, newestPermitted}
 use Rattle.machine.specs.Sends.{isTermination}
 use Rattle.machine.specs.Named.{participantNamed}

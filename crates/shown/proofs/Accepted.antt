@@ -18,7 +18,7 @@ use Rattle.line_theory.specs.Sets.{View, IsBook}
 use Rattle.line_theory.specs.OfTables.{viewOf}
 use Rattle.line_theory.proofs.Accepted.{by-column, checked, well, unused-entry, inside, received-own, sent-of, received-of, received-rises, accepted-book}
 use Rattle.shown.specs.Statements.{IsCounter, ShowsBook, ZeroElsewhere, AcceptedShows, AcceptedZeroElsewhere}
-use Rattle.shown.proofs.Sums.{sum-to}
+use Rattle.book.proofs.Sums.{sum-of}
 
 module _ {shape : Shape} {sent received : List ℕ} (are : AreAccepted (lent shape sent received)) where
   abbrev v : View
@@ -41,7 +41,7 @@ module _ {shape : Shape} {sent received : List ℕ} (are : AreAccepted (lent sha
   )
 
   few : sumTo (shape .n) (count shape) ≤ 256
-  few = rw (sum-to (shape .n) (shape .counts)) (few-in-all (take (shape .n) (shape .counts)) (checked are .counts))
+  few = rw (sum-of (shape .counts) (shape .n)) (few-in-all (take (shape .n) (shape .counts)) (checked are .counts))
 
   -- of a checkpoint, counted from 0
   module _ (j r : ℕ) (h : j < shape .n) (m : r < count shape j) where

@@ -1,11 +1,11 @@
 -- The book that a view shows and the book that tables hold: accepted tables hold the book that their view shows, and a view that
 -- shows a book is the view of its tables.
 use mathlib.Core.Path.{_≡_, sym, ap, _∙_}
-use mathlib.Core.List.{List, []}
+use mathlib.Core.List.{[]}
 use Prim.Native.Nat.{ℕ, suc, _+_, _-_, _≤_, _<_}
 use native.Mathlib.Omega.{arith}
-use lib.ListN.{length, take, getD}
-use lib.Seq.{take-all, ext-getD}
+use lib.ListN.{length}
+use lib.Seq.{ext-getD}
 use Rattle.book.specs.declared.Shape.{Shape}
 use Rattle.book.specs.Bounds.{mark}
 use Rattle.book.specs.Lent.{lent, Tables}
@@ -20,15 +20,14 @@ use Rattle.round_trips.proofs.Tables.{good-of, good-tables, of-shape, of-sent, 
 use Rattle.round_trips.proofs.View.{view-count}
 use Rattle.round_trips.proofs.Well.{well-good}
 use Rattle.round_trips.proofs.Zeros.{length-padded}
-use Rattle.lists.specs.Over.{sumTo, tab}
 use Rattle.line_theory.specs.Sets.{View}
 use Rattle.line_theory.specs.OfTables.{viewOf}
 use Rattle.line_theory.proofs.Accepted.{checked, well, inside, sent-of, received-of}
-use Rattle.lists.proofs.Over.{length-tab, getD-tab, sum-ext}
+use Rattle.lists.proofs.Over.{length-tab}
 use Rattle.shown.specs.Shown.{bookShown}
 use Rattle.shown.specs.Statements.{ShowsBook, TablesShown, ShownIsAccepted, ShownIsView}
 use Rattle.shown.proofs.Rows.{counts-shown}
-use Rattle.shown.proofs.Sums.{sum-to}
+use Rattle.shown.proofs.Sums.{sum-tab}
 use Rattle.shown.proofs.Counters.{length-counters, is-counter, length-shown, checkpoint-shown, sent-shown, received-shown, book-same}
 
 -- ---- the view of accepted tables
@@ -79,13 +78,7 @@ module _ (v : View) (shows : ShowsBook v) where
   book = bookShown v
 
   few : sum (countsOf (book .processes)) ≤ 256
-  few =
-      let counts : List ℕ = tab (v .n) (v .count) in
-      let all : take (v .n) counts ≡ counts = take-all (v .n) counts (omega (arith, length-tab (v .n) (v .count))) in
-      let same : sum counts ≡ sumTo (v .n) (v .count)
-      = ap sum (sym all) ∙ sym (sum-to (v .n) counts)
-      ∙ sum-ext (v .n) (λ j. getD counts j 0) (v .count) (λ j h. getD-tab (v .n) (v .count) j 0 h) in
-      rw (counts-shown v, same) (shows .few)
+  few = rw (counts-shown v, sum-tab (v .n) (v .count)) (shows .few)
 
   well-shown : WellFormed book
   unfolding bookShown

@@ -10,7 +10,7 @@ use Rattle.book.specs.Check.{tablesQuestion}
 use mathlib.Core.Bool.{true}
 use Rattle.book.proofs.Questions.{then-none, asked-yes, kept-passed}
 use Rattle.book.specs.Names.{isNamed, isPurpose}
-use Rattle.message.proofs.Heads.{named-in}
+use Rattle.book.proofs.Names.{named-in}
 use Rattle.strands.specs.Strands.{haveRoom, posted}
 use Rattle.session.specs.declared.Session.{Session}
 use Rattle.session.specs.declared.Turned.{Turned}

@@ -13,7 +13,7 @@ use Rattle.book.specs.Check.{tablesQuestion}
 use Rattle.lists.proofs.Tests.{and-both}
 use Rattle.book.proofs.Questions.{then-assoc}
 use Rattle.book.specs.Names.{isNamed, isPurpose}
-use Rattle.message.proofs.Heads.{named-in}
+use Rattle.book.proofs.Names.{named-in}
 use Rattle.machine.specs.Named.{participantNamed}
 use Rattle.machine.specs.Own.{Own}
 use Rattle.participant.specs.declared.Participant.{Participant}

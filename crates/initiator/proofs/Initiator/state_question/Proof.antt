@@ -10,7 +10,7 @@ use Rattle.book.specs.declared.Shape.{Shape}
 use Rattle.book.proofs.Starts.{rows-accepted}
 use Rattle.line_theory.proofs.Accepted.{accepted-few}
 use Rattle.book.specs.Names.{isNamed, isPurpose}
-use Rattle.message.proofs.Heads.{named-in}
+use Rattle.book.proofs.Names.{named-in}
 use Rattle.machine.specs.Own.{ownOf}
 use Rattle.machine.proofs.Answers.{first-no, second-no, third-no, all-yes}
 use Rattle.initiator.specs.Fits.{fits}
