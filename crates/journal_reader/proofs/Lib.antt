@@ -1,0 +1,12 @@
+pub mod Padded
+pub mod Kept
+pub mod Taken
+pub mod Answers
+pub mod AskingLoop
+pub mod Journals
+pub mod FillColumns
+pub mod FillCounts
+pub mod FillPlaces
+pub mod FillTurns
+pub mod FillKnown
+pub mod ReadAnswers
