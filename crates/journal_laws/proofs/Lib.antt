@@ -1,0 +1,7 @@
+pub mod Channels
+pub mod Sizes
+pub mod Shows
+pub mod Built
+pub mod Running
+pub mod Written
+pub mod Theorems
