@@ -48,8 +48,12 @@
  * Tables. `sent` and `received` have RECOVERY_LINE_TABLE_ENTRIES counters each: a row of sixteen for each checkpoint,
  * processes in order, oldest checkpoint first; column p is partner p. What is unused is zero.
  *
- * Messages are bytes: numbers in groups of seven bits, lowest group first, the top bit of a byte set when another group follows.
- * Kind (1 invitation, 2 other), purpose, sender, count of pairs, then the pairs (process, counter), rising by process.
+ * Books, journals and messages are bytes: numbers in groups of seven bits, lowest group first, the top bit of a byte set when
+ * another group follows.
+ *   message      kind (1 invitation, 2 other), purpose, sender, count of pairs, then the pairs (process, counter), rising by
+ *                process.
+ *   journal      n, then the events in the order in which they happened: kind (1 sent, 2 received, 3 checkpoint), process, and
+ *                for 1 and 2 the partner. It may end after any event, or after n.
  */
 #ifndef RECOVERY_LINE_H
 #define RECOVERY_LINE_H
@@ -61,13 +65,15 @@
 extern "C" {
 #endif
 
-/* The version of this interface: it changes when a declaration, a layout or the meaning of a call does. */
+/* The version of this interface: it changes when a declaration, a layout or the meaning of a call does; a call that is added
+ * changes none of them. */
 #define RECOVERY_LINE_VERSION 2
 
 /* Bounds. */
 #define RECOVERY_LINE_PROCESSES 16
 #define RECOVERY_LINE_CHECKPOINTS 256
 #define RECOVERY_LINE_BOOK_BYTES 65536
+#define RECOVERY_LINE_JOURNAL_BYTES 65536
 #define RECOVERY_LINE_GROUPS 5
 #define RECOVERY_LINE_TABLE_ENTRIES (RECOVERY_LINE_CHECKPOINTS * RECOVERY_LINE_PROCESSES)
 #define RECOVERY_LINE_MATRIX_ENTRIES (RECOVERY_LINE_PROCESSES * RECOVERY_LINE_PROCESSES)
@@ -137,6 +143,11 @@ typedef uint32_t recovery_line_counter;
 #define RECOVERY_LINE_RESTART 2 /* only, from checkpoint 1 */
 #define RECOVERY_LINE_ADVANCE_AND_RESTART 3 /* from the line */
 
+/* Kinds of events in a journal. */
+#define RECOVERY_LINE_EVENT_SENT 1 /* by the process to the partner */
+#define RECOVERY_LINE_EVENT_RECEIVED 2 /* by the process from the partner */
+#define RECOVERY_LINE_EVENT_CHECKPOINT 3
+
 /* The answer of a call that accepts, and of one that is lent a slice of words of the wrong length. */
 #define RECOVERY_LINE_ACCEPTED 0
 #define RECOVERY_LINE_WRONG_LENGTH 100
@@ -147,6 +158,14 @@ typedef uint32_t recovery_line_counter;
 uint32_t recovery_line_read(const uint8_t *bytes, size_t bytes_len, uint64_t *shape, size_t shape_len,
                             recovery_line_counter *sent, size_t sent_len, recovery_line_counter *received,
                             size_t received_len);
+
+/* Reads a journal: the counters of the book that it builds into the two tables, every entry of both, and its shape. Checkpoint 1
+ * of every process is there from the start; what a process does after its last checkpoint is in no counter.
+ * Questions: 1, 2, of n 3 and 4, then event by event 19, 10, 20, 5.
+ * Stack: 6144 bytes. */
+uint32_t recovery_line_journal(const uint8_t *bytes, size_t bytes_len, uint64_t *shape, size_t shape_len,
+                               recovery_line_counter *sent, size_t sent_len, recovery_line_counter *received,
+                               size_t received_len);
 
 /* Checks lent tables, and changes nothing.
  * Questions of tables, which every call below puts first: 2, 4, all of 5, then 6 to 8 in book order, then 9.

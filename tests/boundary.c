@@ -6,129 +6,17 @@
  *
  * Where slices are lent in blocks of their own, these are of the heap, or end or start at a page that cannot be touched.
  */
-#include "recovery_line.h"
+#include "boundary.h"
 
-#include <stdbool.h>
 #include <stdio.h>
 #include <stdlib.h>
 #include <string.h>
 #include <sys/mman.h>
 #include <unistd.h>
 
-/* Every slice that some call is lent. Process 1 begins a search with purpose 3; 2 is invited and then reports. */
-enum slice { BYTES, SHAPE, SENT, RECEIVED, OUT, SET, PAIR, LINE, PARTICIPANT, INVITATION, INITIATOR, REPORT, LENGTHS, SESSION,
-             STRANDS, ORDER, LENGTH, PASSED, ROUNDS, MESSAGES, SLICES };
-#define OF(slice) (1u << (slice))
-#define TABLES (OF(SHAPE) | OF(SENT) | OF(RECEIVED))
-
-enum { PURPOSE = RECOVERY_LINE_ADVANCE_AND_RESTART, GUARD = 64, SLOT = RECOVERY_LINE_MESSAGE_BYTES(3) };
-
-struct kind {
-    const char *name;
-    size_t size, elements;
-    bool words;
-};
-static const struct kind kinds[SLICES] = {
-    {"bytes", 1, 28, false},
-    {"shape", 8, RECOVERY_LINE_SHAPE_WORDS, true},
-    {"sent", sizeof(recovery_line_counter), RECOVERY_LINE_TABLE_ENTRIES, false},
-    {"received", sizeof(recovery_line_counter), RECOVERY_LINE_TABLE_ENTRIES, false},
-    {"out", 1, 64, false},
-    {"set", 8, RECOVERY_LINE_SET_WORDS, true},
-    {"pair", 8, RECOVERY_LINE_PAIR_WORDS, true},
-    {"line", 8, RECOVERY_LINE_SET_WORDS, true},
-    {"participant's state", 8, RECOVERY_LINE_PARTICIPANT_WORDS, true},
-    {"invitation", 1, 6, false},
-    {"initiator's state", 8, RECOVERY_LINE_INITIATOR_WORDS, true},
-    {"report", 1, 8, false},
-    {"lengths", 8, RECOVERY_LINE_LENGTHS_WORDS, true},
-    {"session", 8, RECOVERY_LINE_SESSION_WORDS, true},
-    {"strands", 1, RECOVERY_LINE_STRAND_BYTES(3), false},
-    {"order", 8, RECOVERY_LINE_ORDER_WORDS, true},
-    {"length", 8, 1, false},
-    {"passed", 8, 1, false},
-    {"rounds", 8, 1, false},
-    {"messages", 8, 1, false},
-};
-
-/* K's example 1, and a book of one process. */
-static const uint8_t book[] = {3, 2, 0, 0, 0, 0, 0, 0, 4, 5, 2, 0, 0, 0, 0, 3, 0, 0, 0, 2, 0, 0, 0, 0, 7, 0, 0, 0};
-static const uint8_t lonely_book[] = {1, 3};
-static const uint8_t invitation[] = {1, PURPOSE, 1, 1, 1, 0};
-static const uint8_t report[] = {2, PURPOSE, 2, 2, 1, 3, 3, 0};
-static const uint8_t other_report[] = {2, PURPOSE, 3, 2, 1, 7, 2, 0};
-
-/* What is lent now: where, and how many elements. */
-static struct {
-    void *start;
-    size_t elements;
-} lent[SLICES];
-
 /* All slices with guard bytes around each, and as they stand before each call. */
 static uint8_t *arena, *prepared;
 static size_t arena_size, place[SLICES];
-
-#define U8(slice) (uint8_t *)lent[slice].start, lent[slice].elements
-#define COUNTERS(slice) (recovery_line_counter *)lent[slice].start, lent[slice].elements
-#define U64(slice) (uint64_t *)lent[slice].start, lent[slice].elements
-#define NUMBER(slice) (uint64_t *)lent[slice].start
-#define LENT_TABLES U64(SHAPE), COUNTERS(SENT), COUNTERS(RECEIVED)
-
-static uint32_t call_read(void) { return recovery_line_read(U8(BYTES), LENT_TABLES); }
-static uint32_t call_check(void) { return recovery_line_check(LENT_TABLES); }
-static uint32_t call_write(void) { return recovery_line_write(LENT_TABLES, U8(OUT), NUMBER(LENGTH)); }
-static uint32_t call_test_set(void) { return recovery_line_test_set(LENT_TABLES, U64(SET), U64(PAIR)); }
-static uint32_t call_find(void) { return recovery_line_find(LENT_TABLES, U64(LINE), NUMBER(PASSED)); }
-static uint32_t call_participant_first(void) {
-    return recovery_line_participant_first(LENT_TABLES, 2, 1, PURPOSE, U64(PARTICIPANT));
-}
-static uint32_t call_participant_receive(void) {
-    return recovery_line_participant_receive(U64(PARTICIPANT), LENT_TABLES, U8(INVITATION), U8(OUT), U64(LENGTHS));
-}
-static uint32_t call_initiator_begin(void) {
-    return recovery_line_initiator_begin(LENT_TABLES, 1, PURPOSE, U64(INITIATOR), U8(OUT), U64(LENGTHS));
-}
-static uint32_t call_initiator_receive(void) {
-    return recovery_line_initiator_receive(U64(INITIATOR), LENT_TABLES, U8(REPORT), U8(OUT), U64(LENGTHS));
-}
-static uint32_t call_session_start(void) {
-    return recovery_line_session_start(LENT_TABLES, 1, PURPOSE, U64(SESSION), U8(STRANDS));
-}
-static uint32_t call_session_turn(void) {
-    return recovery_line_session_turn(U64(SESSION), LENT_TABLES, 3, U8(STRANDS));
-}
-static uint32_t call_search(void) {
-    return recovery_line_search(LENT_TABLES, 1, PURPOSE, U64(LINE), NUMBER(PASSED), NUMBER(ROUNDS), NUMBER(MESSAGES));
-}
-static uint32_t call_move(void) { return recovery_line_move(LENT_TABLES, PURPOSE, U64(ORDER)); }
-static uint32_t call_restart_order(void) { return recovery_line_restart_order(LENT_TABLES, PURPOSE, U64(ORDER)); }
-
-/* A call, what it is lent to read and to write, and which part of its buffer of bytes it writes when it accepts. */
-struct call {
-    const char *name;
-    uint32_t (*run)(void);
-    unsigned reads, writes;
-    size_t from, to;
-};
-enum { READ, CHECK, WRITE, TEST_SET, FIND, PARTICIPANT_FIRST, PARTICIPANT_RECEIVE, INITIATOR_BEGIN, INITIATOR_RECEIVE,
-       SESSION_START, SESSION_TURN, SEARCH, MOVE, RESTART_ORDER, CALLS };
-static const struct call calls[CALLS] = {
-    {"read", call_read, OF(BYTES), TABLES, 0, 0},
-    {"check", call_check, TABLES, 0, 0, 0},
-    {"write", call_write, TABLES, OF(OUT) | OF(LENGTH), 0, sizeof book},
-    {"test_set", call_test_set, TABLES | OF(SET), OF(PAIR), 0, 0},
-    {"find", call_find, TABLES, OF(LINE) | OF(PASSED), 0, 0},
-    {"participant_first", call_participant_first, TABLES, OF(PARTICIPANT), 0, 0},
-    {"participant_receive", call_participant_receive, TABLES | OF(INVITATION), OF(PARTICIPANT) | OF(OUT) | OF(LENGTHS), 0,
-     sizeof report},
-    {"initiator_begin", call_initiator_begin, TABLES, OF(INITIATOR) | OF(OUT) | OF(LENGTHS), 0, 2 * sizeof invitation},
-    {"initiator_receive", call_initiator_receive, TABLES | OF(REPORT), OF(INITIATOR) | OF(OUT) | OF(LENGTHS), 0, 0},
-    {"session_start", call_session_start, TABLES, OF(SESSION) | OF(STRANDS), 0, SLOT + sizeof invitation},
-    {"session_turn", call_session_turn, TABLES, OF(SESSION) | OF(STRANDS), SLOT, SLOT + sizeof report},
-    {"search", call_search, TABLES, OF(LINE) | OF(PASSED) | OF(ROUNDS) | OF(MESSAGES), 0, 0},
-    {"move", call_move, 0, TABLES | OF(ORDER), 0, 0},
-    {"restart_order", call_restart_order, TABLES, OF(ORDER), 0, 0},
-};
 
 static bool group_failed, any_failed;
 
@@ -200,6 +88,7 @@ static void prepare(void) {
     lay_out();
     lend_all();
     put(BYTES, book, sizeof book);
+    put(EVENTS, journal, sizeof journal);
     put(SET, set, sizeof set);
     put(INVITATION, invitation, sizeof invitation);
     put(REPORT, report, sizeof report);
@@ -249,6 +138,7 @@ static void wrong_words_come_first(void) {
                 lend_nothing(OUT);
                 lend_nothing(STRANDS);
                 lend_nothing(BYTES);
+                lend_nothing(EVENTS);
                 refused(&calls[c], RECOVERY_LINE_WRONG_LENGTH, kinds[s].name, "a wrong length comes first");
             }
         }
@@ -268,6 +158,7 @@ static void wrong_tables_come_second(void) {
                 lend_nothing(OUT);
                 lend_nothing(STRANDS);
                 lend_nothing(BYTES);
+                lend_nothing(EVENTS);
                 refused(&calls[c], 2, kinds[tables[t]].name, "a table of another length comes first");
             }
         }
@@ -292,9 +183,9 @@ static void no_bytes(void) {
         int call;
         enum slice slice;
         uint32_t answer;
-    } cases[] = {{READ, BYTES, 3}, {WRITE, OUT, 17}, {PARTICIPANT_RECEIVE, INVITATION, 14}, {PARTICIPANT_RECEIVE, OUT, 17},
-                 {INITIATOR_BEGIN, OUT, 17}, {INITIATOR_RECEIVE, REPORT, 14}, {SESSION_START, STRANDS, 17},
-                 {SESSION_TURN, STRANDS, 13}};
+    } cases[] = {{READ, BYTES, 3}, {JOURNAL, EVENTS, 3}, {WRITE, OUT, 17}, {PARTICIPANT_RECEIVE, INVITATION, 14},
+                 {PARTICIPANT_RECEIVE, OUT, 17}, {INITIATOR_BEGIN, OUT, 17}, {INITIATOR_RECEIVE, REPORT, 14},
+                 {SESSION_START, STRANDS, 17}, {SESSION_TURN, STRANDS, 13}};
     for (size_t i = 0; i < sizeof cases / sizeof cases[0]; i++) {
         lend_all();
         lend_nothing(cases[i].slice);
@@ -423,6 +314,38 @@ static void exact_buffers(void) {
     end_group("buffers of the exact size are accepted, and all shorter ones refused");
 }
 
+/* The journal of a book fills what the book fills. */
+static void same_tables(void) {
+    const enum slice tables[] = {SHAPE, SENT, RECEIVED};
+    lend_all();
+    for (int t = 0; t < 3; t++) {
+        memset(lent[tables[t]].start, 0xEE, kinds[tables[t]].elements * kinds[tables[t]].size);
+    }
+    expect(call_journal() == 0, "journal", "events", "is accepted");
+    expect(unchanged(), "journal", "tables", "are those of the book");
+    end_group("a journal fills the tables as the book that it builds");
+}
+
+/* A journal may end where an event does, and nowhere else. */
+static void exact_events(void) {
+    size_t event = 1, next = 1;
+    for (size_t elements = 0; elements <= sizeof journal; elements++) {
+        if (elements == next) {
+            event = next;
+            next += elements < sizeof journal && journal[elements] == RECOVERY_LINE_EVENT_CHECKPOINT ? 2 : 3;
+        }
+        uint32_t answer = elements == 0 ? 3 : elements == event ? 0 : 19;
+        lend_blocks();
+        lend_block(EVENTS, elements);
+        expect(call_journal() == answer, "journal", "events", "just whole events are accepted");
+        if (answer != 0) {
+            expect(block_unchanged(SHAPE) && block_unchanged(SENT) && block_unchanged(RECEIVED), "journal", "tables",
+                   "a refused call changes nothing");
+        }
+    }
+    end_group("a journal is accepted where it ends with an event, and read no further");
+}
+
 /* The last report is answered with two polls of six bytes. */
 static void exact_polls(void) {
     lend_all();
@@ -464,6 +387,8 @@ int main(int argc, char **argv) {
     no_bytes_needed();
     exact_blocks();
     exact_buffers();
+    same_tables();
+    exact_events();
     exact_strands();
     exact_polls();
     give_all_back();

@@ -18,18 +18,19 @@ enum { PROCESSES = RECOVERY_LINE_PROCESSES, ENTRIES = RECOVERY_LINE_TABLE_ENTRIE
 #define TABLES ARRAY(shape), ARRAY(sent), ARRAY(received)
 
 /* What the calls are lent, and what they are told. */
-static uint8_t book[RECOVERY_LINE_BOOK_BYTES], out[RECOVERY_LINE_STRAND_BYTES(PROCESSES)];
+static uint8_t book[RECOVERY_LINE_BOOK_BYTES], journal[RECOVERY_LINE_JOURNAL_BYTES], out[RECOVERY_LINE_STRAND_BYTES(PROCESSES)];
 static uint8_t strands[RECOVERY_LINE_STRAND_BYTES(PROCESSES)];
 static uint64_t shape[RECOVERY_LINE_SHAPE_WORDS], set[RECOVERY_LINE_SET_WORDS], pair[RECOVERY_LINE_PAIR_WORDS];
 static uint64_t line[RECOVERY_LINE_SET_WORDS], order[RECOVERY_LINE_ORDER_WORDS], lengths[RECOVERY_LINE_LENGTHS_WORDS];
 static uint64_t participants[PROCESSES][RECOVERY_LINE_PARTICIPANT_WORDS], initiator[RECOVERY_LINE_INITIATOR_WORDS];
 static uint64_t session[RECOVERY_LINE_SESSION_WORDS];
 static recovery_line_counter sent[ENTRIES], received[ENTRIES];
-static uint64_t book_length, passed, rounds, messages, first, me, purpose;
+static uint64_t book_length, journal_length, passed, rounds, messages, first, me, purpose;
 static const uint8_t *message;
 static size_t message_length;
 
 static uint32_t call_read(void) { return recovery_line_read(book, (size_t)book_length, TABLES); }
+static uint32_t call_journal(void) { return recovery_line_journal(journal, (size_t)journal_length, TABLES); }
 static uint32_t call_check(void) { return recovery_line_check(TABLES); }
 static uint32_t call_write(void) { return recovery_line_write(TABLES, ARRAY(book), &book_length); }
 static uint32_t call_test_set(void) { return recovery_line_test_set(TABLES, ARRAY(set), ARRAY(pair)); }
@@ -59,8 +60,8 @@ static uint32_t call_search(void) {
 static uint32_t call_move(void) { return recovery_line_move(TABLES, purpose, ARRAY(order)); }
 static uint32_t call_restart_order(void) { return recovery_line_restart_order(TABLES, purpose, ARRAY(order)); }
 
-enum call { READ, CHECK, WRITE, TEST_SET, FIND, PARTICIPANT_FIRST, PARTICIPANT_RECEIVE, INITIATOR_BEGIN, INITIATOR_RECEIVE,
-            SESSION_START, SESSION_TURN, SEARCH, MOVE, RESTART_ORDER, CALLS };
+enum call { READ, JOURNAL, CHECK, WRITE, TEST_SET, FIND, PARTICIPANT_FIRST, PARTICIPANT_RECEIVE, INITIATOR_BEGIN,
+            INITIATOR_RECEIVE, SESSION_START, SESSION_TURN, SEARCH, MOVE, RESTART_ORDER, CALLS };
 static struct {
     const char *name;
     uint32_t (*run)(void);
@@ -68,6 +69,7 @@ static struct {
     unsigned long times;
 } calls[CALLS] = {
     {"read", call_read, 0, 0},
+    {"journal", call_journal, 0, 0},
     {"check", call_check, 0, 0},
     {"write", call_write, 0, 0},
     {"test_set", call_test_set, 0, 0},
@@ -174,6 +176,47 @@ static void make_tables(unsigned n, unsigned each, recovery_line_counter step, b
             }
         }
     }
+}
+
+static void log_event(unsigned kind, unsigned process, unsigned partner) {
+    const uint8_t event[] = {(uint8_t)kind, (uint8_t)process, (uint8_t)partner};
+    size_t size = kind == RECOVERY_LINE_EVENT_CHECKPOINT ? 2 : 3;
+    memcpy(journal + journal_length, event, size);
+    journal_length += size;
+}
+
+/* A journal of n processes: `checkpoints` events of each, then, among several processes, messages up to that many bytes. */
+static void make_journal(unsigned n, unsigned checkpoints, size_t bytes) {
+    journal[0] = (uint8_t)n;
+    journal_length = 1;
+    for (unsigned event = 0; event < n * checkpoints; event++) {
+        log_event(RECOVERY_LINE_EVENT_CHECKPOINT, event % n + 1, 0);
+    }
+    for (unsigned j = 1; n > 1 && journal_length + 6 <= bytes; j = j % n + 1) {
+        log_event(RECOVERY_LINE_EVENT_SENT, j, j % n + 1);
+        log_event(RECOVERY_LINE_EVENT_RECEIVED, j % n + 1, j);
+    }
+}
+
+/* A journal, and the same with an event after it that 19, 10, 20 or 5 refuses. */
+static void measure_journal(unsigned n, unsigned checkpoints, size_t bytes) {
+    const uint8_t refused[][3] = {{4, 1, 1}, {3, 17, 1}, {2, 1, 2}, {3, 1, 3}};
+    make_journal(n, checkpoints, bytes);
+    accepted(JOURNAL);
+    size_t length = (size_t)journal_length;
+    for (size_t i = 0; i < sizeof refused / sizeof refused[0] && length + 3 <= sizeof journal; i++) {
+        memcpy(journal + length, refused[i], 3);
+        journal_length = length + 3;
+        measure(JOURNAL);
+    }
+}
+
+static void measure_journals(void) {
+    measure_journal(1, 0, 1);
+    measure_journal(1, 255, 1);
+    measure_journal(2, 127, 2000);
+    measure_journal(16, 15, 2000);
+    measure_journal(16, 15, RECOVERY_LINE_JOURNAL_BYTES);
 }
 
 /* The calls on books and sets, refused ones too. */
@@ -297,6 +340,7 @@ int main(void) {
     for (int i = 0; i < 2; i++) {
         paint = paints[i];
         paint_from(0);
+        measure_journals();
         make_tables(1, 1, 0, false);
         measure_all();
         make_tables(1, 256, 0, false);

@@ -11,12 +11,14 @@ use Rattle.book.specs.declared.WriteAnswer.{WriteAnswer}
 use Rattle.book.specs.declared.WriteAnswer.the-variants.{Length, Refused}
 use Rattle.book.specs.InTurn.{answerTo}
 use Rattle.book.specs.Check.{tablesQuestion}
-use Rattle.book.specs.Read.{readQuestion, shapeRead, sentRead, receivedRead}
+use Rattle.book.specs.Tables.{sentTable, receivedTable}
+use Rattle.book.specs.Read.{bookRead, readQuestion, shapeRead, sentRead, receivedRead}
 use Rattle.book.specs.Write as inner
 use Rattle.book.specs.Write.{bytesOf, writeQuestion, bytesWritten, lengthOr}
 use Rattle.words.specs.Plain.{numberOf, shapeIn, shapeWords}
 use Rattle.recovery_line.specs.Books.{shapeQuestion, readAnswer, readShape, readSent, readReceived, checkAnswer, writeAnswer, writeOut, writeLength}
-use Rattle.recovery_line.proofs.Shells.{wrong, asked, question-is, kept, put, through}
+use Rattle.recovery_line.proofs.Shells.{wrong, asked, kept, put, through}
+use Rattle.recovery_line.proofs.BytesTaken.{taken-wrong, taken-refused, taken-whole}
 
 -- ---- read
 
@@ -28,38 +30,29 @@ module _ (bytes shape sent received : List ℕ) {q : ℕ} (same : q ≡ shapeQue
       × ((shape′ ≡ readShape bytes shape sent received)
       × ((sent′ ≡ readSent bytes shape sent received) × (received′ ≡ readReceived bytes shape sent received)))
 
-  pub read-wrong : (q ≡ 0 → ⊥) → Read q shape sent received
-  unfolding readAnswer readShape readSent readReceived
-  read-wrong some =
-      let e = wrong same (λ _. readQuestion bytes sent received) some in
-      (e, (kept e shape _ some, (kept e sent _ some, kept e received _ some)))
+  abbrev question : ℕ
+  question = readQuestion bytes sent received
 
-  module _ (none : q ≡ 0) {answer : Answer} {r : ℕ} (number : r ≡ numberOf answer) (answers : answer ≡ answerTo (readQuestion bytes sent received))
+  pub read-wrong : (q ≡ 0 → ⊥) → Read q shape sent received
+  unfolding readAnswer readShape readSent readReceived sentRead receivedRead
+  read-wrong =
+      taken-wrong question (shapeRead bytes sent received) (sentTable (bookRead bytes)) (receivedTable (bookRead bytes)) shape sent received same
+
+  module _ (none : q ≡ 0) {answer : Answer} {r : ℕ} (number : r ≡ numberOf answer) (answers : answer ≡ answerTo question)
       {sent′ received′ : List ℕ} (left : sent′ ≡ sentRead bytes sent received) (left′ : received′ ≡ receivedRead bytes sent received)
     where
-      of-read : r ≡ readQuestion bytes sent received
-      of-read = question-is (readQuestion bytes sent received) number answers
-
-      read-answered : r ≡ readAnswer bytes shape sent received
-      unfolding readAnswer
-      read-answered = asked same (λ _. readQuestion bytes sent received) none of-read
-
-      tables : (sent′ ≡ readSent bytes shape sent received) × (received′ ≡ readReceived bytes shape sent received)
-      unfolding readSent readReceived sentRead receivedRead
-      tables = (
-        through (readAnswer bytes shape sent received) (readQuestion bytes sent received) sent _ read-answered of-read left,
-        through (readAnswer bytes shape sent received) (readQuestion bytes sent received) received _ read-answered of-read left′,
-      )
-
       pub read-refused : (r ≡ 0 → ⊥) → Read r shape sent′ received′
-      unfolding readShape
-      read-refused some = (read-answered, (kept read-answered shape _ some, tables))
+      unfolding readAnswer readShape readSent readReceived sentRead receivedRead
+      read-refused =
+          taken-refused question (shapeRead bytes sent received) (sentTable (bookRead bytes)) (receivedTable (bookRead bytes)) shape sent received
+          same none number answers left left′
 
       pub read-taken : r ≡ 0 → {taken : Shape} → taken ≡ shapeRead bytes sent received → {shape′ : List ℕ} → shape′ ≡ shapeWords taken
           → Read 0 shape′ sent′ received′
-      unfolding readShape
-      read-taken zeroed e put-there =
-          (sym zeroed ∙ read-answered, (put read-answered shape _ zeroed (put-there ∙ ap shapeWords e), tables))
+      unfolding readAnswer readShape readSent readReceived sentRead receivedRead
+      read-taken =
+          taken-whole question (shapeRead bytes sent received) (sentTable (bookRead bytes)) (receivedTable (bookRead bytes)) shape sent received
+          same none number answers left left′
 
 -- ---- check
 

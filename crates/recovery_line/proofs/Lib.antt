@@ -1,5 +1,7 @@
 pub mod Shells
+pub mod BytesTaken
 pub mod BookCalls
+pub mod JournalCalls
 pub mod LineCalls
 pub mod MoveCalls
 pub mod SearchCalls

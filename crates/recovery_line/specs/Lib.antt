@@ -1,4 +1,5 @@
 pub mod Books
+pub mod Journals
 pub mod Lines
 pub mod Machines
 pub mod Sessions

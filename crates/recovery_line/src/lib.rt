@@ -1,8 +1,9 @@
-// The library that workers in C, C++ and Rust link: every call of document 01 as an exported function over numbers and slices.
+// The library that workers in C, C++ and Rust link: every call of documents 01 and 02 as an exported function over numbers and slices.
 // Shapes, sets, states, sessions and orders cross as words. Every call answers 0, or the number that refuses: first
 // WRONG_LENGTH for a slice of words of another length than its own, then the questions of the call inside. include/recovery_line.h
 // declares these functions; `tests/declarations` compares the two.
 mod books;
+mod journals;
 mod lines;
 mod machines;
 mod moved;

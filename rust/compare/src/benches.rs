@@ -16,6 +16,7 @@ use std::hint::black_box;
 #[derive(Clone, Copy, PartialEq, Eq, Debug)]
 pub enum Operation {
     Read,
+    Journal,
     Check,
     Write,
     TestSet,
@@ -83,6 +84,14 @@ impl Bench {
         bench
     }
 
+    /// A read of a journal.
+    pub fn of_journal(bytes: &[u8]) -> Self {
+        let mut bench = Bench::new(Operation::Journal, &Book::of_zeros(&[1]), 0);
+        bench.lent.bytes = Guarded::holding(bytes);
+        bench.native.bytes = bytes.to_vec();
+        bench
+    }
+
     /// Takes both sides to the same place of a search.
     fn prepare_turn(&mut self, turns_before: usize) {
         self.start_ours();
@@ -128,6 +137,7 @@ impl Bench {
     pub fn run_ours(&mut self) {
         let call = match self.operation {
             Operation::Read => Call::Read,
+            Operation::Journal => Call::Journal,
             Operation::Check => Call::Check,
             Operation::Write => Call::Write,
             Operation::TestSet => Call::TestSet,
@@ -174,6 +184,7 @@ impl Bench {
         } = black_box(&mut self.native);
         let accepted = match self.operation {
             Operation::Read => black_box(reference::read(bytes, sent, received)).is_ok(),
+            Operation::Journal => black_box(reference::read_journal(bytes, sent, received)).is_ok(),
             Operation::Check => black_box(reference::check(shape, sent, received)).is_ok(),
             Operation::Write => black_box(reference::write(shape, sent, received, out)).is_ok(),
             Operation::TestSet => black_box(reference::test_set(shape, sent, received, set)).is_ok(),

@@ -3,7 +3,7 @@
 use crate::layout::{Counter, PROCESSES, SHAPE_WORDS, TABLE_ENTRIES};
 
 /// The two tables of a book, with its shape.
-#[derive(Clone)]
+#[derive(Clone, PartialEq)]
 pub struct Book {
     pub shape: [u64; SHAPE_WORDS],
     pub sent: Vec<Counter>,

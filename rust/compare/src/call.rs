@@ -4,6 +4,7 @@
 #[derive(Clone, Copy, PartialEq, Eq, Debug)]
 pub enum Call {
     Read,
+    Journal,
     Check,
     Write,
     TestSet,
@@ -20,8 +21,9 @@ pub enum Call {
 }
 
 /// All calls, in the order of the header.
-pub const CALLS: [Call; 14] = [
+pub const CALLS: [Call; 15] = [
     Call::Read,
+    Call::Journal,
     Call::Check,
     Call::Write,
     Call::TestSet,
@@ -41,7 +43,7 @@ pub const CALLS: [Call; 14] = [
 pub const WRONG_LENGTH: u32 = 100;
 
 /// All answers: accepted, the questions, and the wrong length.
-pub const ANSWERS: [u32; 20] = [
+pub const ANSWERS: [u32; 22] = [
     0,
     1,
     2,
@@ -61,6 +63,8 @@ pub const ANSWERS: [u32; 20] = [
     16,
     17,
     18,
+    19,
+    20,
     WRONG_LENGTH,
 ];
 
@@ -69,6 +73,7 @@ impl Call {
     pub fn name(self) -> &'static str {
         match self {
             Call::Read => "read",
+            Call::Journal => "journal",
             Call::Check => "check",
             Call::Write => "write",
             Call::TestSet => "test_set",
@@ -89,6 +94,7 @@ impl Call {
     fn own_questions(self) -> &'static [u32] {
         match self {
             Call::Read => &[1, 2, 3, 4, 5, 6, 7, 8, 9],
+            Call::Journal => &[1, 2, 3, 4, 5, 10, 19, 20],
             Call::Check | Call::Find => &[],
             Call::Write => &[17],
             Call::TestSet => &[12],
@@ -102,8 +108,13 @@ impl Call {
 
     /// Whether the call can give this answer.
     pub fn can_answer(self, answer: u32) -> bool {
-        let of_tables = self != Call::Read && [2, 4, 5, 6, 7, 8, 9].contains(&answer);
+        let of_tables = !self.fills_tables() && [2, 4, 5, 6, 7, 8, 9].contains(&answer);
         answer == 0 || answer == WRONG_LENGTH || of_tables || self.own_questions().contains(&answer)
+    }
+
+    /// Whether the call reads bytes into tables, of which nothing but their lengths is asked.
+    pub fn fills_tables(self) -> bool {
+        matches!(self, Call::Read | Call::Journal)
     }
 
     /// How many of `Lent::names` the call is given.

@@ -8,6 +8,10 @@ pub const PROCESSES: usize = 16;
 pub const CHECKPOINTS: usize = 256;
 /// Most bytes of a book.
 pub const BOOK_BYTES: usize = 65536;
+/// Most bytes of a journal.
+pub const JOURNAL_BYTES: usize = 65536;
+/// The largest number of a journal, whatever a book's may be.
+pub const JOURNAL_LARGEST: u64 = 4_294_967_295;
 /// Entries of each table.
 pub const TABLE_ENTRIES: usize = CHECKPOINTS * PROCESSES;
 /// An entry.

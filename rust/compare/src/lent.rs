@@ -78,7 +78,7 @@ pub struct Lent {
     pub shape: Guarded<u64>,
     pub sent: Guarded<Counter>,
     pub received: Guarded<Counter>,
-    /// A book or a message to be read.
+    /// A book, a journal or a message to be read.
     pub bytes: Guarded<u8>,
     /// Where messages or a book are written; a session's strands.
     pub out: Guarded<u8>,
@@ -111,8 +111,8 @@ impl Lent {
         }
     }
 
-    /// A book to be read into fresh tables.
-    pub fn book(bytes: &[u8]) -> Self {
+    /// A book or a journal to be read into fresh tables.
+    pub fn to_read(bytes: &[u8]) -> Self {
         let mut lent = Lent::tables(&[], &[], &[]);
         lent.shape = Guarded::fresh(SHAPE_WORDS);
         lent.sent = Guarded::fresh(TABLE_ENTRIES);

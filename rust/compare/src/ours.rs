@@ -68,7 +68,8 @@ macro_rules! call {
 
 /// Runs a call; its answer.
 pub fn run(call: Call, lent: &mut Lent) -> u32 {
-    let one_table = !matches!(call, Call::Read | Call::Move) && lent.sent == lent.received;
+    let writes_tables = call.fills_tables() || call == Call::Move;
+    let one_table = !writes_tables && lent.sent == lent.received;
     let mut a = Arguments::of(lent);
     if one_table {
         // What is only read may overlap.
@@ -77,7 +78,7 @@ pub fn run(call: Call, lent: &mut Lent) -> u32 {
     // Each slice is a buffer of its own, initialised, of the length that goes with its pointer.
     unsafe {
         match call {
-            Call::Read | Call::Check | Call::Write | Call::TestSet | Call::Find => on_books(call, &a),
+            Call::Read | Call::Journal | Call::Check | Call::Write | Call::TestSet | Call::Find => on_books(call, &a),
             Call::SessionStart | Call::SessionTurn | Call::Search => on_sessions(call, &a),
             Call::Move | Call::RestartOrder => on_moves(call, &a),
             _ => on_machines(call, &a),
@@ -88,6 +89,7 @@ pub fn run(call: Call, lent: &mut Lent) -> u32 {
 unsafe fn on_books(call: Call, a: &Arguments) -> u32 {
     match call {
         Call::Read => call!(recovery_line_read, a, [bytes shape sent received]),
+        Call::Journal => call!(recovery_line_journal, a, [bytes shape sent received]),
         Call::Check => call!(recovery_line_check, a, [shape sent received]),
         Call::Write => call!(recovery_line_write, a, [shape sent received out], a.numbers[0]),
         Call::TestSet => call!(recovery_line_test_set, a, [shape sent received set result]),

@@ -2,6 +2,7 @@
 
 use crate::book::Book;
 use crate::call::{Call, ANSWERS};
+use crate::journal_claims::Met;
 use crate::lent::Lent;
 use crate::line::at_fault;
 use crate::show::describe;
@@ -25,6 +26,8 @@ pub struct Runner {
     pub claimed_sessions: u64,
     pub ended_sessions: u64,
     pub claims: u64,
+    /// The journals that were accepted, and of which their claims were asserted.
+    pub journals: Met,
     pub difference: Option<String>,
 }
 
@@ -39,6 +42,7 @@ impl Runner {
             claimed_sessions: 0,
             ended_sessions: 0,
             claims: 0,
+            journals: Met::default(),
             difference: None,
         }
     }
@@ -71,6 +75,11 @@ impl Runner {
                 None
             }
         }
+    }
+
+    /// What no case had and enough of them must have.
+    pub fn missing(&self) -> Vec<String> {
+        [self.tally.missing(), self.journals.missing()].concat()
     }
 
     /// Notes something that must hold of an outcome and does not; ends the scenario.

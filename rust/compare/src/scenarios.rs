@@ -1,4 +1,4 @@
-//! Scenarios: each makes a book, and runs cases of one theme on it. `None` ends one early (see `Runner::case`).
+//! Scenarios: each makes a book or a journal, and runs cases of one theme on it. `None` ends one early (see `Runner::case`).
 
 use crate::book::Book;
 use crate::books::any_book;
@@ -10,20 +10,21 @@ use crate::random::Random;
 use crate::runner::{book_of, Runner};
 use crate::tally::Kind;
 use crate::variations::{change_set, varied};
-use crate::{line, machine_scenarios, session_scenarios};
+use crate::{journal_scenarios, line, machine_scenarios, session_scenarios};
 
 /// Runs the scenario of a number.
 pub fn run(runner: &mut Runner, number: u64) {
     runner.scenario = number;
     let random = &mut Random::of_part(runner.seed, number);
     // A scenario that ends early says so in the runner.
-    let _ = match random.below(16) {
+    let _ = match random.below(18) {
         0 | 1 => books(runner, random),
         2 => tables(runner, random),
         3 => sets(runner, random),
         4 => machine_scenarios::search(runner, random),
         5..=7 => machine_scenarios::forged(runner, random),
         8..=11 => session_scenarios::search(runner, random),
+        12 | 13 => journal_scenarios::journals(runner, random),
         _ => session_scenarios::forged(runner, random),
     };
 }
@@ -37,13 +38,13 @@ pub fn lent_tables(book: &Book) -> Lent {
 fn books(runner: &mut Runner, random: &mut Random) -> Option<()> {
     let book = any_book(random);
     let bytes = book.bytes();
-    let read = runner.case(Kind::ValidBook, Call::Read, Lent::book(&bytes))?;
+    let read = runner.case(Kind::ValidBook, Call::Read, Lent::to_read(&bytes))?;
     let as_made = read.answer == 0 && read.left.sent.lent() == book.sent && read.left.received.lent() == book.received;
     runner.demand(as_made, "a valid book is read into its tables", &read.left)?;
     written_back(runner, &read.left, &bytes)?;
     for _ in 0..6 {
         let damaged = damaged_books::damaged(random, &book);
-        let lent = Lent::book(&damaged);
+        let lent = Lent::to_read(&damaged);
         let read = runner.case(Kind::DamagedBook, Call::Read, lent.clone())?;
         if read.answer == 0 {
             written_back(runner, &read.left, &damaged)?;

@@ -7,6 +7,8 @@ use crate::call::{Call, ANSWERS, CALLS, WRONG_LENGTH};
 pub enum Kind {
     ValidBook,
     DamagedBook,
+    ValidJournal,
+    DamagedJournal,
     ValidTables,
     DamagedTables,
     TableLengths,
@@ -29,9 +31,11 @@ pub enum Kind {
 }
 
 /// All kinds, with what the table calls them.
-const KINDS: [(Kind, &str); 21] = [
+const KINDS: [(Kind, &str); 23] = [
     (Kind::ValidBook, "valid books read"),
     (Kind::DamagedBook, "damaged books read"),
+    (Kind::ValidJournal, "valid journals read"),
+    (Kind::DamagedJournal, "damaged journals read"),
     (Kind::ValidTables, "valid tables"),
     (Kind::DamagedTables, "damaged tables"),
     (Kind::TableLengths, "tables of wrong length"),

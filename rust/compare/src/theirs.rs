@@ -13,6 +13,12 @@ pub fn run(call: Call, lent: &mut Lent) -> u32 {
             lent.sent.lent_mut(),
             lent.received.lent_mut(),
         ),
+        Call::Journal => words::journal(
+            lent.bytes.lent(),
+            lent.shape.lent_mut(),
+            lent.sent.lent_mut(),
+            lent.received.lent_mut(),
+        ),
         Call::Move => words::move_line(
             lent.shape.lent_mut(),
             lent.sent.lent_mut(),

@@ -30,6 +30,7 @@ pub fn varied(random: &mut Random, call: Call, lent: &Lent) -> (Kind, Lent) {
 fn own_kinds(call: Call) -> &'static [Kind] {
     match call {
         Call::Read => &[Kind::DamagedBook],
+        Call::Journal => &[Kind::DamagedJournal],
         Call::TestSet => &[Kind::Set],
         Call::Write => &[Kind::Room],
         Call::ParticipantFirst | Call::Search | Call::Move | Call::RestartOrder => &[Kind::Name],
@@ -63,7 +64,7 @@ const OF_TURNS: [Kind; 12] = [
     Kind::Name,
 ];
 
-/// The kinds that every call but a read has.
+/// The kinds that every call has; a call that fills tables has the last two, about lengths.
 const OF_TABLES: [Kind; 5] = [
     Kind::DamagedTables,
     Kind::DamagedTables,
@@ -75,7 +76,7 @@ const OF_TABLES: [Kind; 5] = [
 /// A kind of variation for a call, its own more often than those of every call.
 fn one_kind(random: &mut Random, call: Call) -> Kind {
     let own = own_kinds(call);
-    let common = if call == Call::Read {
+    let common = if call.fills_tables() {
         &OF_TABLES[3..]
     } else {
         &OF_TABLES
@@ -89,7 +90,7 @@ fn one_kind(random: &mut Random, call: Call) -> Kind {
 
 fn change(random: &mut Random, call: Call, kind: Kind, lent: &mut Lent) {
     match kind {
-        Kind::DamagedBook => {
+        Kind::DamagedBook | Kind::DamagedJournal => {
             let bytes = with_bytes_changed(random, lent.bytes.lent().to_vec());
             lent.bytes = Guarded::holding(&bytes);
         }

@@ -5,8 +5,11 @@ use compare::books::{any_book, small_book};
 use compare::call::Call;
 use compare::claims::waiting;
 use compare::forged::ForgedSession;
+use compare::journal_claims::{channels_hold, Met};
+use compare::journals::{any_journal, long_journal, Journal};
 use compare::lent::{Guarded, Lent};
 use compare::line::{is_line_of_all_sets, line, passed};
+use compare::measured_journals::{in_any_order, in_turn};
 use compare::random::Random;
 use compare::scenarios::lent_tables;
 use compare::theirs;
@@ -17,7 +20,7 @@ fn books_are_valid() {
     for _ in 0..2000 {
         let book = any_book(random);
         assert_eq!(theirs::run(Call::Check, &mut lent_tables(&book)), 0);
-        assert_eq!(theirs::run(Call::Read, &mut Lent::book(&book.bytes())), 0);
+        assert_eq!(theirs::run(Call::Read, &mut Lent::to_read(&book.bytes())), 0);
     }
 }
 
@@ -65,4 +68,41 @@ fn most_forged_sessions_take_a_turn() {
         }
     }
     assert!(accepted > 400, "{accepted} of 1000");
+}
+
+#[test]
+fn journals_are_valid() {
+    let random = &mut Random::new(4);
+    let mut met = Met::default();
+    for number in 0..2000 {
+        let journal = if number % 50 == 0 {
+            long_journal(random)
+        } else {
+            any_journal(random)
+        };
+        let bytes = journal.bytes();
+        assert_eq!(Journal::of_bytes(&bytes), journal);
+        assert_eq!(theirs::run(Call::Journal, &mut Lent::to_read(&bytes)), 0);
+        met.add(&journal, bytes.len());
+    }
+    assert_eq!(met.missing(), Vec::<String>::new());
+}
+
+#[test]
+fn measured_journals_have_their_size() {
+    for (n, bytes) in [(2, 65_536), (8, 65_536), (16, 16_384), (16, 32_768), (16, 65_536)] {
+        for journal in [in_any_order(n, bytes), in_turn(n, bytes)] {
+            assert_eq!(journal.len(), bytes);
+            assert_eq!(theirs::run(Call::Journal, &mut Lent::to_read(&journal)), 0);
+            assert!(Journal::of_bytes(&journal).checkpoints() >= n + 238);
+        }
+    }
+}
+
+#[test]
+fn a_receipt_of_nothing_breaks_the_channels_law() {
+    let law = |bytes: &[u8]| channels_hold(&Journal::of_bytes(bytes)).is_ok();
+    assert!(law(&[2, 1, 1, 2, 2, 2, 1, 1, 1, 2]));
+    assert!(!law(&[2, 2, 2, 1, 1, 1, 2]));
+    assert!(!law(&[2, 1, 1, 2, 2, 2, 1, 2, 2, 1]));
 }

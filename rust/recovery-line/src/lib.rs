@@ -1,9 +1,9 @@
 //! The recovery line of up to sixteen worker processes that checkpoint when it suits them.
 //!
 //! Which checkpoints there are, and what each had sent and received, stands in a checkpoint book. This crate reads, checks and
-//! writes such books ([`Tables`]), finds the recovery line, the consistent set of checkpoints that is nowhere earlier than any
-//! other, and moves it. Where no one has the whole book the workers find the line by messages: with an [`Initiator`] and
-//! [`Participant`]s of their own, or all in one place in a [`Session`].
+//! writes such books ([`Tables`]), builds one from a journal of events, finds the recovery line, the consistent set of
+//! checkpoints that is nowhere earlier than any other, and moves it. Where no one has the whole book the workers find the line
+//! by messages: with an [`Initiator`] and [`Participant`]s of their own, or all in one place in a [`Session`].
 //!
 //! It is a safe wrapper of a library whose every function is proved against its contract. A call either accepts or is refused
 //! by the first question of the specification that fails ([`Refusal`]), and a refused call changes nothing. No call panics,

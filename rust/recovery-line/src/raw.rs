@@ -26,6 +26,28 @@ pub fn read(bytes: &[u8], shape: &mut [u64], sent: &mut [Counter], received: &mu
     })
 }
 
+/// Reads a journal: the counters of the book that it builds into the two tables, every entry of both, and its shape.
+pub fn read_journal(
+    bytes: &[u8],
+    shape: &mut [u64],
+    sent: &mut [Counter],
+    received: &mut [Counter],
+) -> Result<(), Refusal> {
+    // SAFETY: as the module says.
+    Refusal::from_answer(unsafe {
+        sys::recovery_line_journal(
+            bytes.as_ptr(),
+            bytes.len(),
+            shape.as_mut_ptr(),
+            shape.len(),
+            sent.as_mut_ptr(),
+            sent.len(),
+            received.as_mut_ptr(),
+            received.len(),
+        )
+    })
+}
+
 /// Checks lent tables, and changes nothing.
 pub fn check(shape: &[u64], sent: &[Counter], received: &[Counter]) -> Result<(), Refusal> {
     // SAFETY: as the module says.

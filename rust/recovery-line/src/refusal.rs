@@ -63,6 +63,8 @@ impl Refusal {
             16 => "Is each counter lower than the entry now held (by the initiator, in its matrix)?",
             17 => "Do the bytes to be written fit the buffer?",
             18 => "Is a message waiting on that strand?",
+            19 => "Is the event formed: its kind 1, 2 or 3, its numbers, and a partner other than the process?",
+            20 => "Of a receipt: is a message underway from the partner to the process?",
             sys::RECOVERY_LINE_WRONG_LENGTH => "A slice of words has the wrong length.",
             _ => "The specification has no such question.",
         }

@@ -10,6 +10,8 @@ pub const RECOVERY_LINE_PROCESSES: usize = 16;
 pub const RECOVERY_LINE_CHECKPOINTS: usize = 256;
 /// The most bytes of a book.
 pub const RECOVERY_LINE_BOOK_BYTES: usize = 65536;
+/// The most bytes of a journal.
+pub const RECOVERY_LINE_JOURNAL_BYTES: usize = 65536;
 /// The most bytes of a number.
 pub const RECOVERY_LINE_GROUPS: usize = 5;
 /// The entries of each table.
@@ -118,6 +120,13 @@ pub const RECOVERY_LINE_RESTART: u64 = 2;
 /// The purpose that advances the line and restarts.
 pub const RECOVERY_LINE_ADVANCE_AND_RESTART: u64 = 3;
 
+/// The kind of an event: sent by the process to the partner.
+pub const RECOVERY_LINE_EVENT_SENT: u64 = 1;
+/// The kind of an event: received by the process from the partner.
+pub const RECOVERY_LINE_EVENT_RECEIVED: u64 = 2;
+/// The kind of an event: a checkpoint of the process.
+pub const RECOVERY_LINE_EVENT_CHECKPOINT: u64 = 3;
+
 /// The answer of a call that accepts.
 pub const RECOVERY_LINE_ACCEPTED: u32 = 0;
 /// The answer of a call that is lent a slice of words of the wrong length.
@@ -126,6 +135,18 @@ pub const RECOVERY_LINE_WRONG_LENGTH: u32 = 100;
 extern "C" {
     /// Reads a book into two tables and a shape.
     pub fn recovery_line_read(
+        bytes: *const u8,
+        bytes_len: usize,
+        shape: *mut u64,
+        shape_len: usize,
+        sent: *mut Counter,
+        sent_len: usize,
+        received: *mut Counter,
+        received_len: usize,
+    ) -> u32;
+
+    /// Reads a journal into two tables and a shape.
+    pub fn recovery_line_journal(
         bytes: *const u8,
         bytes_len: usize,
         shape: *mut u64,

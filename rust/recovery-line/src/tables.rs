@@ -35,11 +35,7 @@ pub struct Tables {
 impl Tables {
     /// Reads a checkpoint book, or refuses it by the first of questions 1 to 9 that it fails.
     pub fn read(bytes: &[u8]) -> Result<Tables, Refusal> {
-        let mut tables = Tables {
-            shape: [0; RECOVERY_LINE_SHAPE_WORDS],
-            sent: Box::new([0; RECOVERY_LINE_TABLE_ENTRIES]),
-            received: Box::new([0; RECOVERY_LINE_TABLE_ENTRIES]),
-        };
+        let mut tables = Tables::of_zeros();
         tables.read_over(bytes)?;
         Ok(tables)
     }
@@ -47,6 +43,43 @@ impl Tables {
     /// Reads a checkpoint book in the place of this one, which stays if the new one is refused.
     pub fn read_over(&mut self, bytes: &[u8]) -> Result<(), Refusal> {
         raw::read(bytes, &mut self.shape, &mut self.sent[..], &mut self.received[..])
+    }
+
+    /// Reads a journal, or refuses it by the first question that it fails: 1 to 4, then event by event 19, 10, 20 and 5.
+    ///
+    /// A journal is n, then the events in the order in which they happened: kind (1 sent, 2 received, 3 checkpoint), process,
+    /// and for 1 and 2 the partner. Checkpoint 1 of every process is there from the start.
+    ///
+    /// ```
+    /// use recovery_line::{Checkpoint, Count, Process, Tables};
+    ///
+    /// # fn main() -> Result<(), recovery_line::Refusal> {
+    /// // Of two processes, 1 sends a message and checkpoints; then 2 receives it and checkpoints.
+    /// let tables = Tables::read_journal(&[2, 1, 1, 2, 3, 1, 2, 2, 1, 3, 2])?;
+    /// let (one, two, newest) = (Process::new(1), Process::new(2), Checkpoint::new(2));
+    /// assert_eq!(tables.sent_to(one, newest, two), Some(Count::new(1)));
+    /// assert_eq!(tables.received_from(two, newest, one), Some(Count::new(1)));
+    /// # Ok(())
+    /// # }
+    /// ```
+    pub fn read_journal(bytes: &[u8]) -> Result<Tables, Refusal> {
+        let mut tables = Tables::of_zeros();
+        tables.read_journal_over(bytes)?;
+        Ok(tables)
+    }
+
+    /// Reads a journal in the place of this book, which stays if the journal is refused.
+    pub fn read_journal_over(&mut self, bytes: &[u8]) -> Result<(), Refusal> {
+        raw::read_journal(bytes, &mut self.shape, &mut self.sent[..], &mut self.received[..])
+    }
+
+    /// What a read fills: no book yet.
+    fn of_zeros() -> Tables {
+        Tables {
+            shape: [0; RECOVERY_LINE_SHAPE_WORDS],
+            sent: Box::new([0; RECOVERY_LINE_TABLE_ENTRIES]),
+            received: Box::new([0; RECOVERY_LINE_TABLE_ENTRIES]),
+        }
     }
 
     /// Takes a shape and two tables as they are.

@@ -57,7 +57,7 @@ pub(crate) fn at_most(row: &Row, other: &Row) -> bool {
 }
 
 /// Question 2.
-fn table_lengths(sent: &[Counter], received: &[Counter]) -> Result<(), u32> {
+pub(crate) fn table_lengths(sent: &[Counter], received: &[Counter]) -> Result<(), u32> {
     if sent.len() == ENTRIES && received.len() == ENTRIES {
         Ok(())
     } else {
@@ -66,7 +66,7 @@ fn table_lengths(sent: &[Counter], received: &[Counter]) -> Result<(), u32> {
 }
 
 /// Question 4.
-fn process_count(n: u64) -> Result<usize, u32> {
+pub(crate) fn process_count(n: u64) -> Result<usize, u32> {
     if (1..=PROCESSES as u64).contains(&n) {
         Ok(n as usize)
     } else {

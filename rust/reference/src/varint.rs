@@ -7,15 +7,21 @@ pub(crate) const MOST_GROUPS: usize = 5;
 
 /// Reads the number at `at` and moves `at` behind it; `None` where question 3 says no.
 pub(crate) fn read(bytes: &[u8], at: &mut usize) -> Option<Counter> {
+    read_within(bytes, at, MOST_GROUPS, Counter::MAX.into()).map(|number| number as Counter)
+}
+
+/// The same of a number of up to `groups` groups that is at most `largest`.
+#[inline]
+pub(crate) fn read_within(bytes: &[u8], at: &mut usize, groups: usize, largest: u64) -> Option<u64> {
     let mut value = 0u64;
-    for group in 0..MOST_GROUPS {
+    for group in 0..groups {
         let byte = *bytes.get(*at)?;
         *at += 1;
         value |= u64::from(byte & 0x7f) << (7 * group);
         if byte & 0x80 == 0 {
             // "Only the shortest form": a last group of zero could be left out.
             let shortest = byte != 0 || group == 0;
-            return Counter::try_from(value).ok().filter(|_| shortest);
+            return Some(value).filter(|&value| shortest && value <= largest);
         }
     }
     None

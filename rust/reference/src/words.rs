@@ -6,7 +6,7 @@
 use crate::book::{self, Book, Counter};
 use crate::layout::{shape_of, Decoder, Encoder};
 use crate::machine::{process_question, purpose_question};
-use crate::{initiator, line, participant, restart, session};
+use crate::{initiator, journal, line, participant, restart, session};
 
 pub use crate::layout::{
     initiator_words, participant_words, session_words, INITIATOR_WORDS, LENGTHS_WORDS, ORDER_WORDS, PAIR_WORDS,
@@ -34,6 +34,16 @@ pub fn read(bytes: &[u8], shape: &mut [u64], sent: &mut [Counter], received: &mu
     answer(|| {
         length_question(shape, SHAPE_WORDS)?;
         let read = book::read(bytes, sent, received)?;
+        Encoder::new(shape).shape(&read);
+        Ok(())
+    })
+}
+
+/// `recovery_line_journal`
+pub fn journal(bytes: &[u8], shape: &mut [u64], sent: &mut [Counter], received: &mut [Counter]) -> u32 {
+    answer(|| {
+        length_question(shape, SHAPE_WORDS)?;
+        let read = journal::read_journal(bytes, sent, received)?;
         Encoder::new(shape).shape(&read);
         Ok(())
     })

@@ -39,20 +39,27 @@ impl Reading {
     }
 }
 
-pub fn read(book: &[u8], shape: &mut [u64], sent: &mut [Counter], received: &mut [Counter]) -> u32 {
-    let (mut bytes, mut shape_cells) = (Cells::of(book), Cells::of(shape));
+/// A call that reads bytes into a shape and two tables.
+type FillingCall =
+    unsafe extern "C" fn(*const u8, usize, *mut u64, usize, *mut Counter, usize, *mut Counter, usize) -> u32;
+
+fn fill(call: FillingCall, bytes: &[u8], shape: &mut [u64], sent: &mut [Counter], received: &mut [Counter]) -> u32 {
+    let (mut byte_cells, mut shape_cells) = (Cells::of(bytes), Cells::of(shape));
     let (mut sent_cells, mut received_cells) = (Cells::of(sent), Cells::of(received));
-    let question = call!(
-        sys::recovery_line_read,
-        [bytes, shape_cells, sent_cells, received_cells],
-        [],
-        []
-    );
-    bytes.expect_same(book);
+    let question = call!(call, [byte_cells, shape_cells, sent_cells, received_cells], [], []);
+    byte_cells.expect_same(bytes);
     shape_cells.put_into(shape);
     sent_cells.put_into(sent);
     received_cells.put_into(received);
     question
+}
+
+pub fn read(book: &[u8], shape: &mut [u64], sent: &mut [Counter], received: &mut [Counter]) -> u32 {
+    fill(sys::recovery_line_read, book, shape, sent, received)
+}
+
+pub fn journal(journal: &[u8], shape: &mut [u64], sent: &mut [Counter], received: &mut [Counter]) -> u32 {
+    fill(sys::recovery_line_journal, journal, shape, sent, received)
 }
 
 pub fn check(lent: Lent) -> u32 {

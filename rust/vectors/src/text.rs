@@ -3,8 +3,8 @@
 use std::fmt::Display;
 use std::io::{self, Write};
 
-/// The longest bytes that a field may spell: more than the longest book that is accepted.
-const MOST_BYTES: usize = 262144;
+/// The longest bytes that a field may spell: far more than the longest book or journal that is accepted.
+const MOST_BYTES: usize = 1 << 24;
 
 /// Prints the answer to each line of standard input but the comments; a line may have none.
 pub fn answer_lines(mut answer: impl FnMut(&str) -> Option<Answer>) -> io::Result<()> {
@@ -82,6 +82,24 @@ pub fn bytes(field: &str) -> Option<Vec<u8>> {
         .collect::<Option<Vec<u8>>>()?;
     bytes.resize(length, 0);
     Some(bytes)
+}
+
+/// The bytes that parts joined by `+` spell one after another: each is as a field of [`bytes`], or such digits, `x` and how
+/// many times over.
+pub fn joined_bytes(field: &str) -> Option<Vec<u8>> {
+    let mut joined = Vec::new();
+    for part in field.split('+') {
+        let (spelled, times) = match part.split_once('x') {
+            Some((digits, times)) => (bytes(digits)?, usize::try_from(decimal(times)?).ok()?),
+            None => (bytes(part)?, 1),
+        };
+        let length = spelled.len().checked_mul(times)?.checked_add(joined.len())?;
+        if MOST_BYTES < length {
+            return None;
+        }
+        joined.extend(spelled.repeat(times));
+    }
+    Some(joined)
 }
 
 /// What is printed for a line.

@@ -16,7 +16,7 @@ use std::time::Instant;
 /// Cases of the gate.
 const GATE_CASES: u64 = 400_000;
 
-/// Cases from which on every answer of every call must have been met.
+/// Cases from which on every answer of every call, and every size of a journal, must have been met.
 const ENOUGH_CASES: u64 = 100_000;
 
 /// What the command line asks for.
@@ -105,9 +105,10 @@ fn report(runner: &Runner) -> bool {
     println!();
     let (sessions, ended, claims) = (runner.claimed_sessions, runner.ended_sessions, runner.claims);
     println!("demand 3: {sessions} sessions, {ended} of them to their end, {claims} times asserted");
-    let missing = runner.tally.missing();
+    println!("journals: {}", runner.journals);
+    let missing = runner.missing();
     if runner.tally.cases >= ENOUGH_CASES && !missing.is_empty() {
-        println!("answers that no case had: {}", missing.join(", "));
+        println!("what no case had: {}", missing.join(", "));
     }
     if let Some(difference) = &runner.difference {
         println!("{difference}");
@@ -129,6 +130,7 @@ fn run_seeds(first: u64, cases: u64, seconds: f64) -> bool {
         total.claimed_sessions += runner.claimed_sessions;
         total.ended_sessions += runner.ended_sessions;
         total.claims += runner.claims;
+        total.journals.merge(&runner.journals);
         total.difference = runner.difference;
         if total.difference.is_some() {
             break;

@@ -6,23 +6,32 @@
 //!     measure --callgrind NAME SIDE TIMES   runs an operation; SIDE is ours, reference or neither
 //!     measure --size NAME                   what an operation of some size is measured by
 //!
-//! NAME is one of the list, or has a size: read:N:CHECKPOINTS (measured by bytes), check:N:T and find:N:T (by T + n),
-//! session:N:T (by turns).
+//! NAME is one of the list, or has a size: read:N:CHECKPOINTS and journal:N:BYTES (measured by bytes), check:N:T and
+//! find:N:T (by T + n), session:N:T (by turns).
 
 use compare::benches::{Bench, Operation};
 use compare::book::Book;
+use compare::layout::JOURNAL_BYTES;
 use compare::line;
 use compare::measured_books::{dense, ring_with, typical};
+use compare::measured_journals::{in_any_order, in_turn};
 use compare::timing::medians;
 use std::process::ExitCode;
 
-/// An operation on a book, under the name of its row.
+/// What an operation is measured on.
+enum Input {
+    Book(fn() -> Book),
+    /// A turn after so many others.
+    Turn(usize),
+    Journal(fn() -> Vec<u8>),
+}
+
+/// An operation under the name of its row.
 struct Row {
     name: &'static str,
     what: &'static str,
     operation: Operation,
-    book: fn() -> Book,
-    turns_before: usize,
+    input: Input,
 }
 
 const fn row(name: &'static str, what: &'static str, operation: Operation, book: fn() -> Book) -> Row {
@@ -30,8 +39,7 @@ const fn row(name: &'static str, what: &'static str, operation: Operation, book:
         name,
         what,
         operation,
-        book,
-        turns_before: 0,
+        input: Input::Book(book),
     }
 }
 
@@ -40,9 +48,19 @@ const fn turn(name: &'static str, what: &'static str, turns_before: usize) -> Ro
         name,
         what,
         operation: Operation::Turn,
-        book: sixteen_typical,
-        turns_before,
+        input: Input::Turn(turns_before),
     }
+}
+
+const JOURNAL: Row = Row {
+    name: "journal",
+    what: "the largest journal",
+    operation: Operation::Journal,
+    input: Input::Journal(largest_journal),
+};
+
+fn largest_journal() -> Vec<u8> {
+    in_any_order(16, JOURNAL_BYTES)
 }
 
 fn largest() -> Book {
@@ -62,10 +80,11 @@ fn sixteen_typical() -> Book {
 }
 
 /// All of 16 processes and 256 checkpoints, but for find-254: 2 processes and 256.
-const ROWS: [Row; 14] = [
+const ROWS: [Row; 15] = [
     row("read", "the largest book", Operation::Read, largest),
     row("check", "its tables", Operation::Check, largest),
     row("write", "the largest book", Operation::Write, largest),
+    JOURNAL,
     row("test_set", "a consistent set", Operation::TestSet, largest),
     row("find-254", "2 processes, T = 254", Operation::Find, two_falling),
     row("find-240", "16 processes, T = 240", Operation::Find, sixteen_falling),
@@ -135,13 +154,19 @@ fn print_ratios() {
 }
 
 fn bench_of(row: &Row) -> Bench {
-    Bench::new(row.operation, &(row.book)(), row.turns_before)
+    match row.input {
+        Input::Book(book) => Bench::new(row.operation, &book(), 0),
+        Input::Turn(turns_before) => Bench::new(row.operation, &sixteen_typical(), turns_before),
+        Input::Journal(journal) => Bench::of_journal(&journal()),
+    }
 }
 
 /// Runs an operation a fixed number of times on one side, or only what goes before each run.
 fn run_times(name: &str, side: &str, times: &str) -> bool {
     let listed = ROWS.iter().find(|row| row.name == name).map(bench_of);
-    let named = listed.or_else(|| of_size(name).map(|(operation, book)| Bench::new(operation, &book, 0)));
+    let on_book = || of_size(name).map(|(operation, book)| Bench::new(operation, &book, 0));
+    let on_journal = || journal_of_size(name).map(|journal| Bench::of_journal(&journal));
+    let named = listed.or_else(on_journal).or_else(on_book);
     let (Some(mut bench), Ok(times)) = (named, times.parse::<u32>()) else {
         return false;
     };
@@ -157,10 +182,21 @@ fn run_times(name: &str, side: &str, times: &str) -> bool {
     true
 }
 
+/// The parts of a name with a size.
+fn parts(name: &str) -> Option<(&str, usize, usize)> {
+    let mut parts = name.split(':');
+    Some((parts.next()?, parts.next()?.parse().ok()?, parts.next()?.parse().ok()?))
+}
+
+/// The journal of a name with a size.
+fn journal_of_size(name: &str) -> Option<Vec<u8>> {
+    let (operation, n, bytes) = parts(name)?;
+    (operation == "journal").then(|| in_turn(n, bytes))
+}
+
 /// The operation and the book of a name with a size.
 fn of_size(name: &str) -> Option<(Operation, Book)> {
-    let mut parts = name.split(':');
-    let (operation, n, size) = (parts.next()?, parts.next()?.parse().ok()?, parts.next()?.parse().ok()?);
+    let (operation, n, size) = parts(name)?;
     match operation {
         "read" => Some((Operation::Read, dense(n, size, false))),
         "check" => Some((Operation::Check, ring_with(n, size))),
@@ -171,6 +207,10 @@ fn of_size(name: &str) -> Option<(Operation, Book)> {
 }
 
 fn print_size(name: &str) -> bool {
+    if let Some(journal) = journal_of_size(name) {
+        println!("{}", journal.len());
+        return true;
+    }
     let Some((operation, book)) = of_size(name) else {
         return false;
     };
@@ -201,8 +241,23 @@ fn print_growth() {
         print_per(found.theirs, bytes);
         println!();
     }
+    print_growth_of_journals();
     print_growth_of_finder();
     print_growth_of_sessions();
+}
+
+fn print_growth_of_journals() {
+    println!();
+    println!("Journals, each message received right after it was sent: nanoseconds per byte.");
+    print_heads(&["n", "bytes"], "per byte");
+    let of_sixteen = [16_384, 32_768, JOURNAL_BYTES].map(|bytes| (16, bytes));
+    for (n, bytes) in of_sixteen.into_iter().chain([2, 8].map(|n| (n, JOURNAL_BYTES))) {
+        let found = medians(&mut Bench::of_journal(&in_turn(n, bytes)));
+        print_sizes(&[n, bytes]);
+        print_per(found.ours, bytes);
+        print_per(found.theirs, bytes);
+        println!();
+    }
 }
 
 /// The head of a table: sizes, then nanoseconds in all and per unit for each side.
