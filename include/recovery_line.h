@@ -162,7 +162,7 @@ uint32_t recovery_line_read(const uint8_t *bytes, size_t bytes_len, uint64_t *sh
 /* Reads a journal: the counters of the book that it builds into the two tables, every entry of both, and its shape. Checkpoint 1
  * of every process is there from the start; what a process does after its last checkpoint is in no counter.
  * Questions: 1, 2, of n 3 and 4, then event by event 19, 10, 20, 5.
- * Stack: 6144 bytes. */
+ * Stack: 5120 bytes. */
 uint32_t recovery_line_journal(const uint8_t *bytes, size_t bytes_len, uint64_t *shape, size_t shape_len,
                                recovery_line_counter *sent, size_t sent_len, recovery_line_counter *received,
                                size_t received_len);

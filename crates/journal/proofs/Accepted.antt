@@ -20,7 +20,7 @@ use Rattle.book.proofs.Questions.{then-none, asked-yes}
 use Rattle.book.proofs.Counts.{lengths-taken, size-taken}
 use Rattle.journal.specs.declared.Event.{Event}
 use Rattle.journal.specs.Bounds.{journalGroups, journalLargest}
-use Rattle.journal.specs.Calls.{numbersLogged, endAtBytes, leadingN, eventsLogged, journalQuestion}
+use Rattle.journal.specs.Calls.{numbersLogged, numbersEnd, leadingN, eventsLogged, journalQuestion}
 use Rattle.journal.specs.Counting.{howMany}
 use Rattle.journal.specs.Events.{eventsIn}
 use Rattle.journal.specs.Parts.{eventsFrom}
@@ -59,13 +59,13 @@ pub record JournalPassed (s sent received : List ℕ) : Type 0 where
   pub short : length s ≤ mostBytes
   pub sent-long : length sent ≡ entries
   pub received-long : length received ≡ entries
-  pub numbers : journalNumbersQuestion (endAtBytes s 0) (numbersLogged s 0 .found) ≡ 0
+  pub numbers : journalNumbersQuestion (numbersEnd s 0) (numbersLogged s 0 .found) ≡ 0
 
 module _ (s : List ℕ) where
   pub journal-passed : (sent received : List ℕ) → journalQuestion s sent received ≡ 0 → JournalPassed s sent received
   unfolding journalQuestion
   journal-passed sent received h =
-      let numbers : Unit {0} → ℕ = λ _. journalNumbersQuestion (endAtBytes s 0) (numbersLogged s 0 .found) in
+      let numbers : Unit {0} → ℕ = λ _. journalNumbersQuestion (numbersEnd s 0) (numbersLogged s 0 .found) in
       let a = then-none (bytesQuestion s) (λ _. lengthQuestion sent received then numbers) h in
       let b = then-none (lengthQuestion sent received) numbers (a .1) in
       let long = lengths-taken sent received (b .0) in
@@ -76,13 +76,13 @@ module _ (s : List ℕ) where
         numbers = b .1;
       }
 
-  module _ (passed : journalNumbersQuestion (endAtBytes s 0) (numbersLogged s 0 .found) ≡ 0) where
+  module _ (passed : journalNumbersQuestion (numbersEnd s 0) (numbersLogged s 0 .found) ≡ 0) where
     -- a number leads it
     pub journal-leads : readNumber journalGroups journalLargest s 0 ≡ Refused → ⊥
     unfolding journalNumbersQuestion
     journal-leads e =
         let none : numbersLogged s 0 .found ≡ [] = ap (λ (ns : Numbers). ns .found) (numbers-none journalGroups journalLargest s 0 e) in
-        let three : journalNumbersQuestion (endAtBytes s 0) [] ≡ 0 = rw none at passed in
+        let three : journalNumbersQuestion (numbersEnd s 0) [] ≡ 0 = rw none at passed in
         absurd (omega (arith, three))
 
     module _ (n at : ℕ) (leads : readNumber journalGroups journalLargest s 0 ≡ Number n at) where
@@ -114,7 +114,7 @@ module _ (s : List ℕ) where
             few = size .1;
             in-all = checkpoints-few n [] es (eventsFrom s at .whole) (omega (arith, in-all-first n, size .1)) (asked .1);
             passes = each-passes n [] es (eventsFrom s at .whole) (asked .1);
-            differ = each-differs (endAtBytes s at) (numbersLogged s at .found);
+            differ = each-differs (numbersEnd s at) (numbersLogged s at .found);
           }
 
     pub journal-accepted : AcceptedEvents (leadingN s) (eventsLogged s)

@@ -7,8 +7,8 @@ use native.Mathlib.Omega.{arith}
 use borrow.Author.Tests.{ne-eqb}
 use Rattle.lists.specs.Pick.{pick}
 use Rattle.journal.specs.declared.Event.{Event}
-use Rattle.journal.specs.Counting.{howMany, isCheckpoint, checkpoints}
-use Rattle.journal.specs.Logged.{upToCheckpoint}
+use Rattle.journal.specs.Counting.{howMany, isCheckpoint, checkpointEvents}
+use Rattle.journal.specs.Built.{upToCheckpoint}
 
 -- how far an event takes the count of what is left
 abbrev left : ℕ → ℕ → Event → ℕ
@@ -25,7 +25,7 @@ unfolding upToCheckpoint
 up-to-more j k e es = rw (ne-eqb (suc k) 0 (λ z. absurd (omega (arith, z))))
 
 -- all, where there are fewer
-pub up-to-all : (j k : ℕ) (es : List Event) → checkpoints j es < k → upToCheckpoint j k es ≡ es
+pub up-to-all : (j k : ℕ) (es : List Event) → checkpointEvents j es < k → upToCheckpoint j k es ≡ es
 unfolding upToCheckpoint howMany
 up-to-all j k [] h = refl
 up-to-all j zero (e ∷ es) h = absurd (omega arith)
@@ -37,7 +37,7 @@ up-to-all j (suc k) (e ∷ es) h =
     step false m = omega arith
 
 -- later events change nothing
-pub up-to-stays : (j k : ℕ) (es more : List Event) → k ≤ checkpoints j es → upToCheckpoint j k (es ++ more) ≡ upToCheckpoint j k es
+pub up-to-stays : (j k : ℕ) (es more : List Event) → k ≤ checkpointEvents j es → upToCheckpoint j k (es ++ more) ≡ upToCheckpoint j k es
 unfolding upToCheckpoint howMany
 up-to-stays j k [] more h = rw (zero-of k h) (up-to-none j more)
   where

@@ -3,6 +3,8 @@ pub mod Reading
 pub mod Counting
 pub mod Checkpoints
 pub mod Passed
+pub mod Numbers
+pub mod Short
 pub mod Running
 pub mod Accepted
 pub mod Lent

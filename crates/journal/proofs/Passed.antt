@@ -112,7 +112,7 @@ Differs (Sent process partner) = process .0 ≡ partner .0 → ⊥
 Differs (Received process partner) = process .0 ≡ partner .0 → ⊥
 Differs (Checkpointed process) = Unit {0}
 
-abbrev DiffersIn : Front → Type 0
+abbrev pub DiffersIn : Front → Type 0
 DiffersIn (Begins e rest) = Differs e
 DiffersIn NoEvent = Unit {0}
 
@@ -128,7 +128,7 @@ partner-differs event is process (partner ∷ vs) = go (eqb process partner) ref
     go true e = tt
     go false e = is process partner (eqb-false process partner e)
 
-first-differs : (vs : List ℕ) → DiffersIn (firstEvent vs)
+pub first-differs : (vs : List ℕ) → DiffersIn (firstEvent vs)
 first-differs [] = tt
 first-differs (kind ∷ []) = tt
 first-differs (kind ∷ process ∷ vs) =

@@ -20,7 +20,7 @@ use Rattle.journal.specs.declared.Event.{Event}
 use Rattle.journal.specs.declared.Event.the-variants.{Sent, Received}
 use Rattle.journal.specs.Bounds.{journalGroups, journalLargest}
 use Rattle.journal.specs.Events.{Front, Begins, NoEvent, withPartner, firstEvent, Events, eventsUpTo, eventsIn}
-use Rattle.journal.specs.Calls.{numbersLogged, endAtBytes}
+use Rattle.journal.specs.Calls.{numbersLogged, numbersEnd}
 use Rattle.journal.specs.Parts.{StandsAt, eventsFrom}
 
 -- an event in front of what is found after it
@@ -80,7 +80,7 @@ up-to-fuel (suc fuel) (suc more) ended vs h k = go (firstEvent vs) refl (λ rest
         ∙ sym (up-to-begins more ended vs event rest e)
 
 -- what a list of numbers begins with
-events-begin : (ended : Bool) (vs : List ℕ) (e : Event) (rest : List ℕ) → firstEvent vs ≡ Begins e rest
+pub events-begin : (ended : Bool) (vs : List ℕ) (e : Event) (rest : List ℕ) → firstEvent vs ≡ Begins e rest
     → eventsIn ended vs ≡ front e (eventsIn ended rest)
 unfolding eventsIn
 events-begin ended vs e rest is =
@@ -100,16 +100,16 @@ module _ (s : List ℕ) where
       → eventsFrom s at ≡ record { found = e ∷ eventsFrom s next .found; whole = eventsFrom s next .whole }
   events-more at e next stands =
       ap (λ (stop : ℕ). eventsIn (eqb stop (length s)) (numbersLogged s at .found)) (stands .stop)
-      ∙ events-begin (endAtBytes s next) (numbersLogged s at .found) e (numbersLogged s next .found) (stands .begins)
+      ∙ events-begin (numbersEnd s next) (numbersLogged s at .found) e (numbersLogged s next .found) (stands .begins)
 
   -- where none stands before the end, the journal is not whole
   pub events-broken : (at : ℕ) → at < length s → firstEvent (numbersLogged s at .found) ≡ NoEvent
       → eventsFrom s at ≡ record { found = []; whole = false }
   events-broken at inside none =
-      events-stop (endAtBytes s at) (numbersLogged s at .found) none
+      events-stop (numbersEnd s at) (numbersLogged s at .found) none
       ∙ ap (λ (b : Bool). record { found = []; whole = b }) (go (readNumber journalGroups journalLargest s at) refl)
     where
-      go : (r : Numeral) → readNumber journalGroups journalLargest s at ≡ r → nothingFollows (endAtBytes s at) (numbersLogged s at .found) ≡ false
+      go : (r : Numeral) → readNumber journalGroups journalLargest s at ≡ r → nothingFollows (numbersEnd s at) (numbersLogged s at .found) ≡ false
       go Refused e =
           ap (λ (ns : Numbers). nothingFollows (eqb (ns .stop) (length s)) (ns .found)) (numbers-none journalGroups journalLargest s at e)
           ∙ ne-eqb at (length s) (λ z. absurd (omega (arith, z)))
@@ -126,7 +126,7 @@ module _ (s : List ℕ) where
 
   -- a journal's leading n, and its events after it
   pub journal-begins : (n at : ℕ) → readNumber journalGroups journalLargest s 0 ≡ Number n at
-      → (numbersLogged s 0 .found ≡ n ∷ numbersLogged s at .found) × (endAtBytes s 0 ≡ endAtBytes s at)
+      → (numbersLogged s 0 .found ≡ n ∷ numbersLogged s at .found) × (numbersEnd s 0 ≡ numbersEnd s at)
   journal-begins n at e =
       let is = numbers-more journalGroups journalLargest s 0 n at e in
       (ap (λ (ns : Numbers). ns .found) is, ap (λ (ns : Numbers). eqb (ns .stop) (length s)) is)

@@ -12,9 +12,8 @@ use Rattle.book.specs.Bounds.{mostProcesses}
 use Rattle.journal.specs.declared.Event.{Event}
 use Rattle.journal.specs.declared.Event.the-variants.{Sent, Received, Checkpointed}
 use Rattle.journal.specs.declared.counts.Counts.{Counts}
-use Rattle.journal.specs.Counting.{howMany, isSending, isReceipt, isCheckpoint}
-use Rattle.journal.specs.Questions.{checkpointCount}
-use Rattle.journal.specs.Running.{processOf, oneMore, countsAfter, countsOver}
+use Rattle.journal.specs.Counting.{howMany, isSending, isReceipt, isCheckpoint, checkpointCount}
+use Rattle.journal.specs.Running.{processOf, oneMore, countsAfter, countsNext, countsOver}
 use Rattle.journal.proofs.Counting.{pair-yes, pair-no, one-more, no-more}
 use Rattle.journal.proofs.Passed.{PartnerFits}
 
@@ -35,6 +34,15 @@ module _ (j : ℕ) where
   other-checkpoint (Sent process partner) ne = refl
   other-checkpoint (Received process partner) ne = refl
   other-checkpoint (Checkpointed process) ne = ne-eqb (process .0) j ne
+
+-- ---- what an event leaves of a process's counts
+
+module _ (j : ℕ) (e : Event) (c : Counts) where
+  pub next-own : processOf e ≡ j → countsAfter e c ≡ countsNext j e c
+  next-own own = rw (eq-eqb (processOf e) j own)
+
+  pub next-other : (processOf e ≡ j → ⊥) → c ≡ countsNext j e c
+  next-other other = rw (ne-eqb (processOf e) j other)
 
 -- ---- sixteen partners
 

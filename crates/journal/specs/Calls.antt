@@ -17,22 +17,22 @@ use Rattle.journal.specs.declared.Event.{Event}
 use Rattle.journal.specs.Bounds.{journalGroups, journalLargest}
 use Rattle.journal.specs.Events.{eventsIn}
 use Rattle.journal.specs.Questions.{journalNumbersQuestion}
-use Rattle.journal.specs.Logged.{bookLogged}
+use Rattle.journal.specs.Built.{bookBuilt}
 
 -- the numbers that a journal holds from a place on, up to the first place at which none stands
 abbrev pub numbersLogged : List ℕ → ℕ → Numbers
 numbersLogged bytes at = numbersAt journalGroups journalLargest bytes at
 
 -- whether they end where the bytes end
-abbrev pub endAtBytes : List ℕ → ℕ → Bool
-endAtBytes bytes at = eqb (numbersLogged bytes at .stop) (length bytes)
+abbrev pub numbersEnd : List ℕ → ℕ → Bool
+numbersEnd bytes at = eqb (numbersLogged bytes at .stop) (length bytes)
 
 -- the first question that a journal fails
 unfoldable pub journalQuestion : List ℕ → List ℕ → List ℕ → ℕ
 journalQuestion bytes sent received =
     bytesQuestion bytes
     then λ _. lengthQuestion sent received
-    then λ _. journalNumbersQuestion (endAtBytes bytes 0) (numbersLogged bytes 0 .found)
+    then λ _. journalNumbersQuestion (numbersEnd bytes 0) (numbersLogged bytes 0 .found)
 
 -- a journal's leading n
 abbrev pub leadingN : List ℕ → ℕ
@@ -40,23 +40,23 @@ leadingN bytes = getD (numbersLogged bytes 0 .found) 0 0
 
 -- and its events
 abbrev pub eventsLogged : List ℕ → List Event
-eventsLogged bytes = eventsIn (endAtBytes bytes 0) (drop 1 (numbersLogged bytes 0 .found)) .found
+eventsLogged bytes = eventsIn (numbersEnd bytes 0) (drop 1 (numbersLogged bytes 0 .found)) .found
 
 -- the book that it builds
 abbrev pub journalBook : List ℕ → Book
-journalBook bytes = bookLogged (leadingN bytes) (eventsLogged bytes)
+journalBook bytes = bookBuilt (leadingN bytes) (eventsLogged bytes)
 
 -- what the call answers beside the question: the shape, and what it leaves in the tables
-unfoldable pub shapeLogged : List ℕ → List ℕ → List ℕ → Shape
-shapeLogged bytes sent received = unlessRefused (journalQuestion bytes sent received) noShape (shapeOf (journalBook bytes))
+unfoldable pub shapeBuilt : List ℕ → List ℕ → List ℕ → Shape
+shapeBuilt bytes sent received = unlessRefused (journalQuestion bytes sent received) noShape (shapeOf (journalBook bytes))
 
-unfoldable pub sentLogged : List ℕ → List ℕ → List ℕ → List ℕ
-sentLogged bytes sent received = unlessRefused (journalQuestion bytes sent received) sent (sentTable (journalBook bytes))
+unfoldable pub sentBuilt : List ℕ → List ℕ → List ℕ → List ℕ
+sentBuilt bytes sent received = unlessRefused (journalQuestion bytes sent received) sent (sentTable (journalBook bytes))
 
-unfoldable pub receivedLogged : List ℕ → List ℕ → List ℕ → List ℕ
-receivedLogged bytes sent received = unlessRefused (journalQuestion bytes sent received) received (receivedTable (journalBook bytes))
+unfoldable pub receivedBuilt : List ℕ → List ℕ → List ℕ → List ℕ
+receivedBuilt bytes sent received = unlessRefused (journalQuestion bytes sent received) received (receivedTable (journalBook bytes))
 
 -- all of them
-abbrev pub tablesLogged : List ℕ → List ℕ → List ℕ → Tables
-tablesLogged bytes sent received =
-    lent (shapeLogged bytes sent received) (sentLogged bytes sent received) (receivedLogged bytes sent received)
+abbrev pub tablesBuilt : List ℕ → List ℕ → List ℕ → Tables
+tablesBuilt bytes sent received =
+    lent (shapeBuilt bytes sent received) (sentBuilt bytes sent received) (receivedBuilt bytes sent received)

@@ -38,10 +38,15 @@ sendings j p es = howMany (isSending j p) es
 abbrev pub receipts : ℕ → ℕ → List Event → ℕ
 receipts j p es = howMany (isReceipt j p) es
 
-abbrev pub checkpoints : ℕ → List Event → ℕ
-checkpoints j es = howMany (isCheckpoint j) es
+abbrev pub checkpointEvents : ℕ → List Event → ℕ
+checkpointEvents j es = howMany (isCheckpoint j) es
 
--- "the k-th sending is underway until the channel's k-th receipt": after these events, on the channel from process p to process j
+-- how many checkpoints process j has: "Checkpoint 1 of every process is there from the start."
+abbrev pub checkpointCount : ℕ → List Event → ℕ
+checkpointCount j es = 1 + checkpointEvents j es
+
+-- "the k-th sending is underway until the channel's k-th receipt": after these events, on the channel from process p to process j, k
+-- from 1: it was sent, and the k-th receipt has not come
 abbrev pub isUnderway : ℕ → ℕ → List Event → ℕ → Bool
 isUnderway p j es k = leb k (sendings p j es) && not (leb k (receipts j p es))
 

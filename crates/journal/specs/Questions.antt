@@ -12,7 +12,7 @@ use Rattle.book.specs.Questions.{sizeQuestion}
 use Rattle.journal.specs.declared.Event.{Event}
 use Rattle.journal.specs.declared.Event.the-variants.{Sent, Received, Checkpointed}
 use Rattle.journal.specs.Events.{eventsIn}
-use Rattle.journal.specs.Counting.{checkpoints, underway}
+use Rattle.journal.specs.Counting.{checkpointCount, underway}
 
 -- 10: is each process named from 1 to n?
 abbrev pub eventNamed : ℕ → Event → Bool
@@ -26,22 +26,18 @@ somethingUnderway before (Sent process partner) = true
 somethingUnderway before (Received process partner) = leb 1 (underway (partner .0) (process .0) before)
 somethingUnderway before (Checkpointed process) = true
 
--- how many checkpoints process j has: "Checkpoint 1 of every process is there from the start."
-abbrev pub checkpointCount : ℕ → List Event → ℕ
-checkpointCount j es = 1 + checkpoints j es
-
--- and all processes
+-- how many checkpoints all processes have
 abbrev pub checkpointsInAll : ℕ → List Event → ℕ
 checkpointsInAll n es = sumTo n (λ j. checkpointCount (suc j) es)
 
--- the questions of an event, after those before it; 5: is the sum so far at most 256?
+-- the questions of an event, after those before it; 5: is the sum so far at most 256? (Each count is at least 1 by definition.)
 unfoldable pub eventQuestion : ℕ → List Event → Event → ℕ
 eventQuestion n before e =
     ask 10 (eventNamed n e)
     then λ _. ask 20 (somethingUnderway before e)
     then λ _. ask 5 (leb (checkpointsInAll n (before ++ e ∷ [])) mostCheckpoints)
 
--- event by event; 19: does the journal end where no event stands any more?
+-- event by event; 19: where no event stands any more, has the journal ended?
 unfoldable pub eventsQuestion : ℕ → List Event → List Event → Bool → ℕ
 eventsQuestion n before [] whole = ask 19 whole
 eventsQuestion n before (e ∷ es) whole = eventQuestion n before e then λ _. eventsQuestion n (before ++ e ∷ []) es whole

@@ -1,13 +1,14 @@
 // One process's running counts (document 02, E1): "changed by each event that names it".
 use crate::Event;
-use book::Counter;
+use book::Process;
 ghost use mathlib.Core.Path.{_≡_};
-ghost use Rattle.journal.specs.Running.{countsAfter, noCounts, Countable};
+ghost use Rattle.journal.specs.Running.{noCounts, countsAfter, countsNext, HasRoomFor, HasRoomOf};
 
-// What one process has sent to each partner and received from each so far, and how many checkpoints it has.
+// What one process has sent to each partner and received from each so far, and how many checkpoints it has. Sixteen bits are enough,
+// since no journal has more bytes than they count, and they are what is copied for each event.
 pub struct Counts {
-    pub sent: [Counter; 16],
-    pub received: [Counter; 16],
+    pub sent: [u16; 16],
+    pub received: [u16; 16],
     pub checkpoints: usize,
 }
 
@@ -25,7 +26,7 @@ impl Counts {
 
     // The counts after an event of this process.
     pub fn after(self, event: Event) -> Counts
-        requires { ⌜ Countable event self ⌝ }
+        requires { ⌜ HasRoomFor event self ⌝ }
         ensures { λ r. ⌜ r ≡ countsAfter event self ⌝ }
     {
         let mut next = self;
@@ -48,7 +49,7 @@ impl Counts {
 
 // An event of a process logged in its counts, which are lent.
 pub fn log(counts: &mut Counts, event: Event)
-    requires { ⌜ Countable event (now counts) ⌝ }
+    requires { ⌜ HasRoomFor event (now counts) ⌝ }
     ensures { λ _. ⌜ now (counts .exit) ≡ countsAfter event (now (counts .entry)) ⌝ }
 {
     let before = *counts;
@@ -57,10 +58,22 @@ pub fn log(counts: &mut Counts, event: Event)
 
 // The same, with the counts in and back.
 pub fn logged(counts: Counts, event: Event) -> Counts
-    requires { ⌜ Countable event counts ⌝ }
+    requires { ⌜ HasRoomFor event counts ⌝ }
     ensures { λ r. ⌜ r ≡ countsAfter event counts ⌝ }
 {
     let mut lent = counts;
     log(&mut lent, event);
     lent
+}
+
+// The counts of a process after an event: one that names it changes them, and every other leaves them, also where it is the partner.
+pub fn after_event(counts: Counts, process: Process, event: Event) -> Counts
+    requires { ⌜ HasRoomOf (process .0) event counts ⌝ }
+    ensures { λ r. ⌜ r ≡ countsNext (process .0) event counts ⌝ }
+{
+    let named = crate::process_of(event);
+    if named.0 != process.0 {
+        return counts;
+    }
+    logged(counts, event)
 }

@@ -8,7 +8,7 @@ use Rattle.book.specs.declared.Answer.the-variants as answer
 use Rattle.book.specs.InTurn.{answerTo}
 use Rattle.book.specs.Write.{bytesOf}
 use Rattle.journal.specs.declared.Event.{Event}
-use Rattle.journal.specs.Calls.{journalQuestion, leadingN, eventsLogged, tablesLogged}
+use Rattle.journal.specs.Calls.{journalQuestion, leadingN, eventsLogged, tablesBuilt}
 use Rattle.session_examples.specs.Books.{blank, k1, k6}
 
 -- ---- what can be claimed
@@ -27,7 +27,7 @@ answered journal = answerTo (journalQuestion journal blank blank)
 
 -- with the bytes of the book in the tables beside it
 abbrev pub built : List ℕ → Answer × List ℕ
-built journal = (answered journal, bytesOf (tablesLogged journal blank blank))
+built journal = (answered journal, bytesOf (tablesBuilt journal blank blank))
 
 -- with its n and its events beside it
 abbrev pub logged : List ℕ → Answer × ℕ × List Event
@@ -51,17 +51,17 @@ unfoldable pub times : ℕ → List ℕ → List ℕ
 times zero bytes = []
 times (suc k) bytes = bytes ++ times k bytes
 
--- K example 1: the dashed message is the one that process 2 sends after its checkpoint
+-- K example 1, steps 2 to 4: each message is received right after it is sent
 abbrev pub logged1 : List ℕ
 logged1 =
     0x03
-    ∷ times 3 (0x01 ∷ 0x02 ∷ 0x01 ∷ [])
-    ++ (0x03 ∷ 0x02 ∷ 0x01 ∷ 0x02 ∷ 0x01 ∷ [])
-    ++ times 7 (0x01 ∷ 0x03 ∷ 0x01 ∷ [])
-    ++ (0x03 ∷ 0x03 ∷ [])
-    ++ times 4 (0x02 ∷ 0x01 ∷ 0x02 ∷ [])
-    ++ times 5 (0x02 ∷ 0x01 ∷ 0x03 ∷ [])
+    ∷ times 3 (0x01 ∷ 0x02 ∷ 0x01 ∷ 0x02 ∷ 0x01 ∷ 0x02 ∷ [])
+    ++ (0x03 ∷ 0x02 ∷ [])
+    ++ (0x01 ∷ 0x02 ∷ 0x01 ∷ 0x02 ∷ 0x01 ∷ 0x02 ∷ [])
+    ++ times 5 (0x01 ∷ 0x03 ∷ 0x01 ∷ 0x02 ∷ 0x01 ∷ 0x03 ∷ [])
     ++ (0x03 ∷ 0x01 ∷ [])
+    ++ times 2 (0x01 ∷ 0x03 ∷ 0x01 ∷ 0x02 ∷ 0x01 ∷ 0x03 ∷ [])
+    ++ (0x03 ∷ 0x03 ∷ [])
 
 -- K example 6, steps 2 to 8
 abbrev pub logged6 : List ℕ
@@ -81,8 +81,16 @@ abbrev pub journals : List Example
 journals =
     Builds logged1 k1
     ∷ Builds logged6 k6
+    -- "Checkpoint 1 of every process is there from the start": one process, no event
+    ∷ Builds (0x01 ∷ []) (0x01 ∷ 0x01 ∷ [])
     ∷ HasEvents (0x10 ∷ []) 16 []
     ∷ RefusedBy (0x02 ∷ 0x01 ∷ 0x63 ∷ []) 19
+    -- a partner equal to the process, and above n: 19 comes before 10
+    ∷ RefusedBy (0x02 ∷ 0x01 ∷ 0x03 ∷ 0x03 ∷ []) 19
+    -- a partner above n
+    ∷ RefusedBy (0x01 ∷ 0x01 ∷ 0x01 ∷ 0x02 ∷ []) 10
+    -- the channel of a receipt is the one from the partner to the process: what is underway the other way does not count
+    ∷ RefusedBy (0x02 ∷ 0x01 ∷ 0x01 ∷ 0x02 ∷ 0x02 ∷ 0x01 ∷ 0x02 ∷ []) 20
     ∷ []
 
 -- The journals tried are as claimed.

@@ -14,21 +14,21 @@ use Rattle.book.specs.declared.WriteAnswer.the-variants.{Length}
 use Rattle.round_trips.proofs.Writing.{write-given, answer-given, bytes-left}
 use Rattle.round_trips.proofs.Theorems.{never-too-long, written-then-read}
 use Rattle.shown.proofs.Theorems.{shown-is-accepted}
-use Rattle.journal.specs.Logged.{viewLogged}
-use Rattle.journal.specs.Calls.{journalQuestion, leadingN, eventsLogged, journalBook, shapeLogged, sentLogged, receivedLogged, tablesLogged}
+use Rattle.journal.specs.Built.{viewBuilt}
+use Rattle.journal.specs.Calls.{journalQuestion, leadingN, eventsLogged, journalBook, shapeBuilt, sentBuilt, receivedBuilt, tablesBuilt}
 use Rattle.journal_laws.specs.Statements.{BuiltIsAccepted, BuiltIsRead}
 use Rattle.journal_laws.proofs.Shows.{shows-journal}
 
 -- the tables built are those of the journal's book
 pub tables-built : (bytes sent received : List ℕ) → journalQuestion bytes sent received ≡ 0
-    → tablesLogged bytes sent received ≡ tablesOf (journalBook bytes)
-unfolding shapeLogged sentLogged receivedLogged
+    → tablesBuilt bytes sent received ≡ tablesOf (journalBook bytes)
+unfolding shapeBuilt sentBuilt receivedBuilt
 tables-built bytes sent received h = rw h
 
 pub built-is-accepted : BuiltIsAccepted
 built-is-accepted bytes sent received h =
     subst AreAccepted (sym (tables-built bytes sent received h))
-    (shown-is-accepted (viewLogged (leadingN bytes) (eventsLogged bytes)) (shows-journal bytes sent received h))
+    (shown-is-accepted (viewBuilt (leadingN bytes) (eventsLogged bytes)) (shows-journal bytes sent received h))
 
 -- accepted tables, written to a buffer just as long as their bytes, are read from it
 pub accepted-is-read : (tables : Tables) (into into′ : List ℕ) → AreAccepted tables → length into ≡ entries → length into′ ≡ entries
@@ -43,7 +43,7 @@ accepted-is-read tables into into′ are l l′ =
 
 pub built-is-read : BuiltIsRead
 built-is-read bytes sent received into into′ h l l′ =
-    let tables : Tables = tablesLogged bytes sent received in
+    let tables : Tables = tablesBuilt bytes sent received in
     let are : AreAccepted tables = built-is-accepted bytes sent received h in
     let read = accepted-is-read tables into into′ are l l′ in
     (never-too-long tables are, read .0, read .1)

@@ -45,12 +45,12 @@ module _ (p j : ℕ) (a : List Event) where
       one-more (Received process partner) (room (process .0) (partner .0) some h (eqb (process .0) j && eqb (partner .0) p) refl)
   not-ahead-more (Checkpointed process) some h = one-more (Checkpointed process) (omega arith)
 
-pub not-ahead : (n : ℕ) (es : List Event) → AcceptedEvents n es → (k p j : ℕ) → NotAhead p j (take k es)
+pub not-ahead : (n : ℕ) (es : List Event) → AcceptedEvents n es → (m p j : ℕ) → NotAhead p j (take m es)
 unfolding howMany
-not-ahead n es events k p j =
-    along (NotAhead p j) (Passes n) (λ a e passes h. not-ahead-more p j a e (passes .underway) h) es (events .passes) (omega arith) k
+not-ahead n es events m p j =
+    along (NotAhead p j) (Passes n) (λ a e passes h. not-ahead-more p j a e (passes .underway) h) es (events .passes) (omega arith) m
 
 pub channel-law : ChannelLaw
-channel-law bytes sent received k p j h =
+channel-law bytes sent received m p j h =
     let events = journal-accepted bytes (journal-passed bytes sent received h .numbers) in
-    omega (arith, underway-is p j (take k (eventsLogged bytes)), not-ahead (leadingN bytes) (eventsLogged bytes) events k p j)
+    omega (arith, underway-is p j (take m (eventsLogged bytes)), not-ahead (leadingN bytes) (eventsLogged bytes) events m p j)

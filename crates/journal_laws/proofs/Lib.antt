@@ -4,4 +4,5 @@ pub mod Shows
 pub mod Built
 pub mod Running
 pub mod Written
+pub mod Whole
 pub mod Theorems

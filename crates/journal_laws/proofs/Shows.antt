@@ -2,14 +2,14 @@
 use mathlib.Core.Path.{_≡_, ap}
 use mathlib.Core.Bool.{Bool}
 use mathlib.Core.List.{List}
-use Prim.Native.Nat.{ℕ, zero, suc, _-_, _≤_, _<_}
+use Prim.Native.Nat.{ℕ, suc, _-_, _≤_, _<_}
 use native.Mathlib.Omega.{arith}
 use lib.ListN.{length}
 use Rattle.book.specs.Bounds.{mark}
 use Rattle.shown.specs.Statements.{ShowsBook}
 use Rattle.journal.specs.declared.Event.{Event}
 use Rattle.journal.specs.Counting.{howMany, isSending, isReceipt}
-use Rattle.journal.specs.Logged.{upToCheckpoint, viewLogged}
+use Rattle.journal.specs.Built.{upToCheckpoint, viewBuilt}
 use Rattle.journal.specs.Calls.{leadingN, eventsLogged, journalQuestion}
 use Rattle.journal.proofs.Accepted.{AcceptedEvents, journal-passed, journal-accepted}
 use Rattle.journal.proofs.Counting.{how-many-few}
@@ -28,7 +28,7 @@ module _ (such : Event → Bool) (j : ℕ) (es : List Event) where
   counted-rises : (r : ℕ) → 1 ≤ r → howMany such (upToCheckpoint j (r - 1) es) ≤ howMany such (upToCheckpoint j (suc r - 1) es)
   counted-rises r h = let next : suc r - 1 ≡ suc (r - 1) = omega arith in rw next (up-to-rises such j (r - 1) es)
 
-pub shows-logged : (n : ℕ) (es : List Event) → AcceptedEvents n es → length es < mark → ShowsBook (viewLogged n es)
+pub shows-logged : (n : ℕ) (es : List Event) → AcceptedEvents n es → length es < mark → ShowsBook (viewBuilt n es)
 shows-logged n es events short =
     record {
       size = (events .some, events .few);
@@ -47,7 +47,7 @@ shows-logged n es events short =
     }
 
 pub shows-journal : (bytes sent received : List ℕ) → journalQuestion bytes sent received ≡ 0
-    → ShowsBook (viewLogged (leadingN bytes) (eventsLogged bytes))
+    → ShowsBook (viewBuilt (leadingN bytes) (eventsLogged bytes))
 shows-journal bytes sent received h =
     let passed = journal-passed bytes sent received h in
     shows-logged (leadingN bytes) (eventsLogged bytes) (journal-accepted bytes (passed .numbers)) (omega (arith, logged-few bytes, passed .short))

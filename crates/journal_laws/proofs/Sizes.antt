@@ -11,7 +11,7 @@ use Rattle.varint.specs.Sequence.{Numbers, scan, numbersAt}
 use Rattle.book.specs.Questions.{nothingFollows}
 use Rattle.journal.specs.Events.{Front, Begins, NoEvent, firstEvent, Events, eventsUpTo, eventsIn}
 use Rattle.journal.specs.Bounds.{journalGroups, journalLargest}
-use Rattle.journal.specs.Calls.{numbersLogged, endAtBytes, eventsLogged}
+use Rattle.journal.specs.Calls.{numbersLogged, numbersEnd, eventsLogged}
 
 scan-few : (g l fuel : ℕ) (s : List ℕ) (at : ℕ) → length (scan g l fuel s at .found) ≤ fuel
 unfolding scan
@@ -59,4 +59,4 @@ events-few ended vs = up-to-few (length vs) ended vs
 pub logged-few : (bytes : List ℕ) → length (eventsLogged bytes) ≤ length bytes
 logged-few bytes =
     let found : List ℕ = numbersLogged bytes 0 .found in
-    omega (arith, events-few (endAtBytes bytes 0) (drop 1 found), length-drop 1 found, numbers-few journalGroups journalLargest bytes 0)
+    omega (arith, events-few (numbersEnd bytes 0) (drop 1 found), length-drop 1 found, numbers-few journalGroups journalLargest bytes 0)

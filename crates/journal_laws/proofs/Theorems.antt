@@ -9,10 +9,13 @@ use Rattle.journal_laws.specs.Statements.{
   OwnCountsChange,
   OtherCountsStay,
   EventsReadBack,
+  QuestionOfWritten,
+  AcceptedIsWritten,
 }
 use Rattle.journal_laws.proofs.Built
 use Rattle.journal_laws.proofs.Channels
 use Rattle.journal_laws.proofs.Running
+use Rattle.journal_laws.proofs.Whole
 use Rattle.journal_laws.proofs.Written
 
 pub built-is-accepted : BuiltIsAccepted
@@ -38,3 +41,9 @@ other-counts-stay = Running.other-counts-stay
 
 pub events-read-back : EventsReadBack
 events-read-back = Written.events-read-back
+
+pub question-of-written : QuestionOfWritten
+question-of-written = Written.question-of-written
+
+pub accepted-is-written : AcceptedIsWritten
+accepted-is-written = Whole.accepted-is-written

@@ -11,13 +11,16 @@ use lib.Dec.{eqb}
 use borrow.Author.Tests.{eq-eqb, ne-eqb}
 use Rattle.varint.specs.Sequence.{Numbers}
 use Rattle.varint.proofs.Sequence.{scan-encodeAll}
+use Rattle.book.specs.InTurn.{_then_}
+use Rattle.book.specs.Questions.{bytesQuestion, lengthQuestion}
 use Rattle.journal.specs.declared.Event.{Event}
 use Rattle.journal.specs.declared.Event.the-variants.{Sent, Received, Checkpointed}
 use Rattle.journal.specs.Bounds.{journalGroups, journalLargest}
 use Rattle.journal.specs.Events.{Begins, eventNumbers, firstEvent, Events, eventsUpTo, eventsIn}
-use Rattle.journal.specs.Calls.{numbersLogged, endAtBytes}
+use Rattle.journal.specs.Questions.{journalNumbersQuestion}
+use Rattle.journal.specs.Calls.{numbersLogged, numbersEnd, journalQuestion}
 use Rattle.journal_laws.specs.Written.{numbersOfEvents, journalNumbers, journalBytes, Writable, AllWritable}
-use Rattle.journal_laws.specs.Statements.{EventsReadBack}
+use Rattle.journal_laws.specs.Statements.{EventsReadBack, QuestionOfWritten}
 
 -- ---- the numbers
 
@@ -104,7 +107,7 @@ module _ (n : ℕ) (es : List Event) (h : n ≤ journalLargest) (w : AllWritable
   written-ends : eqb (length bytes) (length bytes) ≡ true
   written-ends = eq-eqb (length bytes) (length bytes) refl
 
-  events-read : eventsIn (endAtBytes bytes 0) (drop 1 (numbersLogged bytes 0 .found)) ≡ record { found = es; whole = true }
+  events-read : eventsIn (numbersEnd bytes 0) (drop 1 (numbersLogged bytes 0 .found)) ≡ record { found = es; whole = true }
   events-read =
       ap (λ (ns : Numbers). eventsIn (eqb (ns .stop) (length bytes)) (drop 1 (ns .found))) (numbers-written n es h w)
       ∙ ap (λ (ended : Bool). eventsIn ended (numbersOfEvents es)) written-ends
@@ -112,11 +115,20 @@ module _ (n : ℕ) (es : List Event) (h : n ≤ journalLargest) (w : AllWritable
 
 pub events-read-back : EventsReadBack
 events-read-back n es h w =
-    let numbers = numbers-written n es h w in
-    let events = events-read n es h w in
-    let long : ℕ = length (journalBytes n es) in (
-      ap (λ (ns : Numbers). getD (ns .found) 0 0) numbers,
+    let events = events-read n es h w in (
+      ap (λ (ns : Numbers). getD (ns .found) 0 0) (numbers-written n es h w),
       ap (λ (r : Events). r .found) events,
-      ap (λ (ns : Numbers). eqb (ns .stop) long) numbers ∙ written-ends n es h w,
       ap (λ (r : Events). r .whole) events,
     )
+
+pub question-of-written : QuestionOfWritten
+unfolding journalQuestion journalNumbersQuestion
+question-of-written n es sent received h w =
+    let bytes : List ℕ = journalBytes n es in
+    ap
+    (λ (ns : Numbers).
+    bytesQuestion bytes
+    then λ _. lengthQuestion sent received
+    then λ _. journalNumbersQuestion (eqb (ns .stop) (length bytes)) (ns .found))
+    (numbers-written n es h w)
+    ∙ rw (written-ends n es h w, events-written true es w)

@@ -13,10 +13,11 @@ use Rattle.book.specs.Tables.{padded, shapeOf}
 use Rattle.book.specs.InTurn.{_then_, ask}
 use Rattle.book.proofs.Questions.{then-passed, then-refused}
 use Rattle.shown.proofs.Rows.{shape-shown}
+use Rattle.journal.specs.Counting.{checkpointCount}
 use Rattle.journal.specs.declared.Event.{Event}
 use Rattle.journal.specs.Events.{NoEvent, firstEvent, Events}
-use Rattle.journal.specs.Questions.{checkpointCount, eventQuestion, eventsQuestion}
-use Rattle.journal.specs.Logged.{viewLogged, bookLogged}
+use Rattle.journal.specs.Questions.{eventQuestion, eventsQuestion}
+use Rattle.journal.specs.Built.{viewBuilt, bookBuilt}
 use Rattle.journal.specs.Calls.{numbersLogged}
 use Rattle.journal.specs.Parts.{StandsAt, eventsFrom}
 use Rattle.journal.proofs.Reading.{events-more, events-broken, events-end}
@@ -130,10 +131,10 @@ module _ (n : ℕ) (s : List ℕ) (at : ℕ) (underway counts : List ℕ) (total
     all : eventsFrom s at .found ≡ inv .before
     all = inv .listed ∙ ap (λ (es : Events). inv .before ++ es .found) rest ∙ append-nil (inv .before)
 
-    shaped : _≡_ {A = Shape} (record { n = n; counts = counts }) (shapeOf (bookLogged n (eventsFrom s at .found)))
+    shaped : _≡_ {A = Shape} (record { n = n; counts = counts }) (shapeOf (bookBuilt n (eventsFrom s at .found)))
     shaped =
         let is : counts ≡ padded mostProcesses (tab n (λ j. checkpointCount (suc j) (eventsFrom s at .found))) = rw all (inv .kept .checkpoints) in
-        (λ i. record { n = n; counts = is i }) ∙ sym (shape-shown (viewLogged n (eventsFrom s at .found)))
+        (λ i. record { n = n; counts = is i }) ∙ sym (shape-shown (viewBuilt n (eventsFrom s at .found)))
 
     pub sofar-ended : EventsTaken n s at (record { question = 0; shape = record { n = n; counts = counts } })
     sofar-ended =

@@ -10,7 +10,7 @@ use Rattle.shown.specs.Statements.{ZeroElsewhere}
 use Rattle.journal.specs.declared.Event.{Event}
 use Rattle.journal.specs.declared.Event.the-variants.{Sent, Received, Checkpointed}
 use Rattle.journal.specs.Counting.{howMany, isSending, isReceipt}
-use Rattle.journal.specs.Logged.{upToCheckpoint, viewLogged}
+use Rattle.journal.specs.Built.{upToCheckpoint, viewBuilt}
 use Rattle.journal.specs.Questions.{eventNamed}
 use Rattle.journal.proofs.Accepted.{AcceptedEvents}
 use Rattle.journal.proofs.Checkpoints.{up-to-few}
@@ -54,7 +54,7 @@ none-up-to such es none j k =
     omega arith
 
 module _ {n : ℕ} {es : List Event} (accepted : AcceptedEvents n es) where
-  pub sent-elsewhere : ZeroElsewhere (viewLogged n es) (viewLogged n es .S)
+  pub sent-elsewhere : ZeroElsewhere (viewBuilt n es) (viewBuilt n es .S)
   sent-elsewhere j r h some few = (
     none-up-to (isSending (suc j) (suc j)) es (λ a e b is. own-sending (suc j) e (accepted .differ a e b is)) (suc j) (r - 1),
     λ p absent m.
@@ -62,7 +62,7 @@ module _ {n : ℕ} {es : List Event} (accepted : AcceptedEvents n es) where
         (λ a e b is. absent-sending n (suc j) (suc p) e (omega arith) (accepted .passes a e b is .named)) (suc j) (r - 1),
   )
 
-  pub received-elsewhere : ZeroElsewhere (viewLogged n es) (viewLogged n es .R)
+  pub received-elsewhere : ZeroElsewhere (viewBuilt n es) (viewBuilt n es .R)
   received-elsewhere j r h some few = (
     none-up-to (isReceipt (suc j) (suc j)) es (λ a e b is. own-receipt (suc j) e (accepted .differ a e b is)) (suc j) (r - 1),
     λ p absent m.

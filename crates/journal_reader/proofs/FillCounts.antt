@@ -13,10 +13,10 @@ use Rattle.book.specs.Bounds.{mostProcesses, mostBytes}
 use Rattle.journal.specs.declared.Event.{Event}
 use Rattle.journal.specs.declared.Event.the-variants.{Sent, Received, Checkpointed}
 use Rattle.journal.specs.declared.counts.Counts.{Counts}
-use Rattle.journal.specs.Counting.{howMany, isSending, isReceipt, isCheckpoint, checkpoints}
-use Rattle.journal.specs.Logged.{upToCheckpoint}
-use Rattle.journal.specs.Questions.{checkpointCount, checkpointsInAll}
-use Rattle.journal.specs.Running.{processOf, countsAfter, countsOver, Raisable, Countable}
+use Rattle.journal.specs.Counting.{howMany, isSending, isReceipt, isCheckpoint, checkpointEvents, checkpointCount}
+use Rattle.journal.specs.Built.{upToCheckpoint}
+use Rattle.journal.specs.Questions.{checkpointsInAll}
+use Rattle.journal.specs.Running.{processOf, countsAfter, countsOver, HasRoomAt, HasRoomFor}
 use Rattle.journal.proofs.Checkpoints.{up-to-stays}
 use Rattle.journal.proofs.Counting.{how-many-few, one-more, no-more}
 use Rattle.journal.proofs.Passed.{Passes, PartnerFits, process-named, partner-named}
@@ -73,9 +73,9 @@ module _ (es : List Event) where
 -- ---- room for one more
 
 -- no count is above the number of events
-raisable : (such : ℕ → Event → Bool) (es : List Event) (p : ℕ) → 1 ≤ p → p ≤ mostProcesses → length es < mostBytes
-    → Raisable p (tab mostProcesses (λ q. howMany (such (suc q)) es))
-raisable such es p some few room =
+room-at : (such : ℕ → Event → Bool) (es : List Event) (p : ℕ) → 1 ≤ p → p ≤ mostProcesses → length es + 1 < mostBytes
+    → HasRoomAt p (tab mostProcesses (λ q. howMany (such (suc q)) es))
+room-at such es p some few room =
     record {
       some = some;
       few = few;
@@ -83,14 +83,14 @@ raisable such es p some few room =
     }
 
 -- nor are there more checkpoints than may be
-pub countable : (n : ℕ) (es : List Event) (e : Event) → n ≤ mostProcesses → Passes n es e → length es < mostBytes
-    → Countable e (countsOver (processOf e) es)
-countable n es (Sent process partner) few passes room =
-    let fits = partner-named n (Sent process partner) few (passes .named) in raisable (isSending (process .0)) es (partner .0) (fits .0) (fits .1) room
-countable n es (Received process partner) few passes room =
+pub room-for : (n : ℕ) (es : List Event) (e : Event) → n ≤ mostProcesses → Passes n es e → length es + 1 < mostBytes
+    → HasRoomFor e (countsOver (processOf e) es)
+room-for n es (Sent process partner) few passes room =
+    let fits = partner-named n (Sent process partner) few (passes .named) in room-at (isSending (process .0)) es (partner .0) (fits .0) (fits .1) room
+room-for n es (Received process partner) few passes room =
     let fits = partner-named n (Received process partner) few (passes .named) in
-    raisable (isReceipt (process .0)) es (partner .0) (fits .0) (fits .1) room
-countable n es (Checkpointed process) few passes room =
+    room-at (isReceipt (process .0)) es (partner .0) (fits .0) (fits .1) room
+room-for n es (Checkpointed process) few passes room =
     let e : Event = Checkpointed process in
     let there = process-named n e (passes .named) in
     let back : suc (process .0 - 1) ≡ process .0 = omega (arith, there .0) in
@@ -106,7 +106,7 @@ abbrev left : ℕ → ℕ → Event → ℕ
 left j k e = k - pick (isCheckpoint j e) 1 0
 
 -- the events up to a checkpoint event with fewer before it are those before it, and itself
-pub up-to-last : (j k : ℕ) (es : List Event) (e : Event) → checkpoints j es < k → upToCheckpoint j k (es ++ e ∷ []) ≡ es ++ e ∷ []
+pub up-to-last : (j k : ℕ) (es : List Event) (e : Event) → checkpointEvents j es < k → upToCheckpoint j k (es ++ e ∷ []) ≡ es ++ e ∷ []
 unfolding upToCheckpoint howMany
 up-to-last j k [] e h = rw (ne-eqb k 0 (λ z. absurd (omega (arith, z))))
 up-to-last j zero (x ∷ es) e h = absurd (omega arith)
@@ -123,7 +123,7 @@ pub next-row : (such : Event → Bool) (j : ℕ) (es : List Event) (e : Event) (
     → howMany such (upToCheckpoint j (checkpointCount j es) (es ++ e ∷ more)) ≡ howMany such es
 next-row such j es e more is none =
     let k : ℕ = checkpointCount j es in
-    let one : checkpoints j (es ++ e ∷ []) ≡ checkpoints j es + 1 = one-more (isCheckpoint j) es e is in
+    let one : checkpointEvents j (es ++ e ∷ []) ≡ checkpointEvents j es + 1 = one-more (isCheckpoint j) es e is in
     ap (λ (l : List Event). howMany such (upToCheckpoint j k l)) (sym (append-assoc es (e ∷ []) more))
     ∙ ap (howMany such) (up-to-stays j k (es ++ e ∷ []) more (omega arith) ∙ up-to-last j k es e (omega arith))
     ∙ no-more such es e none

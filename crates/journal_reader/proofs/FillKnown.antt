@@ -18,8 +18,8 @@ use Rattle.journal.specs.declared.Event.{Event}
 use Rattle.journal.specs.declared.counts.Counts.{Counts}
 use Rattle.journal.specs.Bounds.{journalGroups, journalLargest}
 use Rattle.journal.specs.Questions.{journalNumbersQuestion}
-use Rattle.journal.specs.Calls.{numbersLogged, endAtBytes, leadingN, eventsLogged, journalBook, journalQuestion}
-use Rattle.journal.specs.Logged.{viewLogged}
+use Rattle.journal.specs.Calls.{numbersLogged, numbersEnd, leadingN, eventsLogged, journalBook, journalQuestion}
+use Rattle.journal.specs.Built.{viewBuilt}
 use Rattle.journal.specs.Running.{noCounts}
 use Rattle.journal.proofs.Accepted.{journal-passed, leading-is, events-are, journal-whole, journal-accepted}
 use Rattle.shown.proofs.Places.{getD-within}
@@ -55,14 +55,14 @@ clear-of : (t t′ : List ℕ) → length t ≡ entries → t′ ≡ sets t 0 (r
 clear-of t t′ long put = let both = cleared t t′ entries long put in record { long = both .0; zeros = both .1 }
 
 module _ (s sent received : List ℕ) (shape : Shape) (asked : journalQuestion s sent received ≡ 0) (is : shape ≡ shapeOf (journalBook s)) where
-  abbrev passed : journalNumbersQuestion (endAtBytes s 0) (numbersLogged s 0 .found) ≡ 0
+  abbrev passed : journalNumbersQuestion (numbersEnd s 0) (numbersLogged s 0 .found) ≡ 0
   passed = journal-passed s sent received asked .numbers
 
   -- the rows of the book fit the tables
   pub shape-fits : sum (shape .counts) ≤ mostCheckpoints
   shape-fits =
       let events = journal-accepted s passed in
-      rw is (omega (arith, shown-in-all (viewLogged (leadingN s) (eventsLogged s)) (events .few), events .in-all))
+      rw is (omega (arith, shown-in-all (viewBuilt (leadingN s) (eventsLogged s)) (events .few), events .in-all))
 
   pub to-fill : (v at : ℕ) → readNumber journalGroups journalLargest s 0 ≡ Number v at → (first : List ℕ) → first ≡ firstRows (shape .counts)
       → (sent′ received′ : List ℕ) → sent′ ≡ sets sent 0 (replicate (entries - 0) 0) → received′ ≡ sets received 0 (replicate (entries - 0) 0)
@@ -93,11 +93,12 @@ module _ {s : List ℕ} {at : ℕ} {first sent received : List ℕ} (ready : ToF
       record {
         accepted = events;
         short = ready .short;
-        starts = λ j h. ap (λ (l : List ℕ). getD l j 0) (ready .starts) ∙ shown-starts (viewLogged n es) (events .few) j h;
+        starts = λ j h. ap (λ (l : List ℕ). getD l j 0) (ready .starts) ∙ shown-starts (viewBuilt n es) (events .few) j h;
       }
 
   pub begun : (c : Counts) → c ≡ noCounts → Filling n es s sent received (replicate mostProcesses c) at
   begun c none =
-      filling-begun n es s sent received at c (read-next journalGroups journalLargest s 0 n at (ready .leads) .1)
+      let led = read-next journalGroups journalLargest s 0 n at (ready .leads) in
+      filling-begun n es s sent received at c (led .0) (led .1)
       (events-are s (ready .passed) n at (ready .leads)) (journal-whole s (ready .passed) n at (ready .leads)) none (ready .sent-clear)
       (ready .received-clear)

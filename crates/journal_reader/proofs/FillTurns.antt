@@ -14,24 +14,23 @@ use Rattle.shown.proofs.Rows.{sent-rows-shown, received-rows-shown}
 use Rattle.shown.proofs.Places.{Standing, standing-clear, standing-as, standing-more, standing-all, row-inside}
 use Rattle.journal.specs.declared.Event.{Event}
 use Rattle.journal.specs.declared.counts.Counts.{Counts}
-use Rattle.journal.specs.Counting.{howMany, isSending, isReceipt, isCheckpoint}
-use Rattle.journal.specs.Events.{Events, NoEvent, firstEvent}
-use Rattle.journal.specs.Calls.{numbersLogged}
-use Rattle.journal.specs.Logged.{upToCheckpoint, viewLogged, bookLogged}
-use Rattle.journal.specs.Parts.{StandsAt, eventsFrom}
-use Rattle.journal.specs.Questions.{checkpointCount}
-use Rattle.journal.specs.Running.{processOf, countsAfter, countsOver, noCounts, Countable}
+use Rattle.journal.specs.Counting.{howMany, isSending, isReceipt, isCheckpoint, checkpointCount}
+use Rattle.journal.specs.Events.{Front, Begins, NoEvent, firstEvent, Events, eventsIn}
+use Rattle.journal.specs.Calls.{numbersLogged, numbersEnd}
+use Rattle.journal.specs.Built.{upToCheckpoint, viewBuilt, bookBuilt}
+use Rattle.journal.specs.Parts.{StandsAt, NamedAt, eventsFrom}
+use Rattle.journal.specs.Running.{processOf, countsAfter, countsNext, countsOver, noCounts, HasRoomFor}
 use Rattle.journal.proofs.Checkpoints.{up-to-none}
 use Rattle.journal.proofs.Counting.{how-many-append}
 use Rattle.journal.proofs.Accepted.{AcceptedEvents}
 use Rattle.journal.proofs.Passed.{Passes, process-named, partner-named}
-use Rattle.journal.proofs.Running.{other-checkpoint, one-checkpoint, same-checkpoints}
-use Rattle.journal.proofs.Reading.{events-more, events-broken, events-end}
+use Rattle.journal.proofs.Running.{next-own, other-checkpoint, one-checkpoint, same-checkpoints}
+use Rattle.journal.proofs.Reading.{events-begin, events-more, events-broken, events-end}
 use Rattle.journal_reader.specs.Filling.{isCheckpointEvent, IsClear}
 use Rattle.journal_reader.proofs.FillColumns.{sent-elsewhere, received-elsewhere}
 use Rattle.journal_reader.proofs.FillCounts.{
   allCounts,
-  countable,
+  room-for,
   all-at,
   all-more,
   saved-own,
@@ -51,10 +50,10 @@ pub record Filling (n : ℕ) (es : List Event) (s sent received : List ℕ) (all
   pub inside : next ≤ length s
   pub events : es ≡ done ++ eventsFrom s next .found
   pub whole : eventsFrom s next .whole ≡ true
-  pub few : length done ≤ next
+  pub few : length done < next
   pub counted : all ≡ allCounts done
-  pub sent-rows : Standing n (countIn es) (viewLogged n es .S) (countIn done) sent
-  pub received-rows : Standing n (countIn es) (viewLogged n es .R) (countIn done) received
+  pub sent-rows : Standing n (countIn es) (viewBuilt n es .S) (countIn done) sent
+  pub received-rows : Standing n (countIn es) (viewBuilt n es .R) (countIn done) received
 
 -- ---- before any event
 
@@ -68,10 +67,10 @@ none-counted : replicate mostProcesses noCounts ≡ allCounts []
 unfolding tabFrom howMany
 none-counted = refl
 
-pub filling-begun : (n : ℕ) (es : List Event) (s sent received : List ℕ) (at : ℕ) (c : Counts) → at ≤ length s → es ≡ eventsFrom s at .found
+pub filling-begun : (n : ℕ) (es : List Event) (s sent received : List ℕ) (at : ℕ) (c : Counts) → 0 < at → at ≤ length s → es ≡ eventsFrom s at .found
     → eventsFrom s at .whole ≡ true → c ≡ noCounts → IsClear sent → IsClear received
     → Filling n es s sent received (replicate mostProcesses c) at
-filling-begun n es s sent received at c inside events whole none sent-clear received-clear =
+filling-begun n es s sent received at c later inside events whole none sent-clear received-clear =
     record {
       done = [];
       inside = inside;
@@ -79,9 +78,9 @@ filling-begun n es s sent received at c inside events whole none sent-clear rece
       whole = whole;
       few = omega arith;
       counted = ap (replicate mostProcesses) none ∙ none-counted;
-      sent-rows = standing-clear n (countIn es) (viewLogged n es .S) (countIn []) sent (sent-clear .long) (sent-clear .zeros)
+      sent-rows = standing-clear n (countIn es) (viewBuilt n es .S) (countIn []) sent (sent-clear .long) (sent-clear .zeros)
           (λ j r p some few. oldest-zeros (isSending (suc j) (suc p)) (suc j) r es some few);
-      received-rows = standing-clear n (countIn es) (viewLogged n es .R) (countIn []) received (received-clear .long) (received-clear .zeros)
+      received-rows = standing-clear n (countIn es) (viewBuilt n es .R) (countIn []) received (received-clear .long) (received-clear .zeros)
           (λ j r p some few. oldest-zeros (isReceipt (suc j) (suc p)) (suc j) r es some few);
     }
 
@@ -102,11 +101,25 @@ pub record Turn (n : ℕ) (es : List Event) (s first sent received : List ℕ) (
   pub stands : StandsAt s next e after
   pub named : process ≡ processOf e
 
--- the journal is whole, so there is an event before its end
-pub event-there : {n : ℕ} {es : List Event} {s sent received : List ℕ} {all : List Counts} {next : ℕ} → Filling n es s sent received all next
-    → next < length s → firstEvent (numbersLogged s next .found) ≡ NoEvent → ⊥
-event-there {s = s} {next = next} inv h none =
-    true≢false (sym (inv .whole) ∙ ap (λ (r : Events). r .whole) (events-broken s next h none))
+-- the journal is whole, so there is an event before its end, and it is one of those that pass
+pub named-there : {n : ℕ} {es : List Event} {s sent received : List ℕ} {all : List Counts} {next : ℕ} → AcceptedEvents n es
+    → Filling n es s sent received all next → next < length s → NamedAt s next
+named-there {n} {es} {s} {next = next} accepted inv h = go (firstEvent (numbersLogged s next .found)) refl
+  where
+    go : (f : Front) → firstEvent (numbersLogged s next .found) ≡ f → NamedAt s next
+    go NoEvent none = absurd (true≢false (sym (inv .whole) ∙ ap (λ (r : Events). r .whole) (events-broken s next h none)))
+    go (Begins e rest) begins =
+        let more = events-begin (numbersEnd s next) (numbersLogged s next .found) e rest begins in
+        let on : es ≡ inv .done ++ e ∷ eventsIn (numbersEnd s next) rest .found
+        = inv .events ∙ ap (λ (r : Events). inv .done ++ r .found) more in
+        record {
+          n = n;
+          few = accepted .few;
+          event = e;
+          rest = rest;
+          begins = begins;
+          named = accepted .passes (inv .done) e _ on .named;
+        }
 
 module _ {n : ℕ} {es : List Event} {s first sent received : List ℕ} {all : List Counts} {next : ℕ} {e : Event} {after process : ℕ}
     (turn : Turn n es s first sent received all next e after process) where
@@ -157,15 +170,15 @@ module _ {n : ℕ} {es : List Event} {s first sent received : List ℕ} {all : L
         ap₂ (λ (l : List Counts) (i : ℕ). getD l (i - 1) d) (turn .inv .counted) (turn .named)
         ∙ all-at done e (in-n .0) (omega (arith, in-n .1, accepted .few)) d
 
-    pub counts-room : Countable e counts
+    pub counts-room : HasRoomFor e counts
     counts-room =
-        subst (λ (c : Counts). Countable e c) (sym counts-are)
-        (countable n done e (accepted .few) passes (omega (arith, turn .inv .few, turn .left, turn .known .short)))
+        subst (λ (c : Counts). HasRoomFor e c) (sym counts-are)
+        (room-for n done e (accepted .few) passes (omega (arith, turn .inv .few, turn .left, turn .known .short)))
 
-    module _ (logged : Counts) (logs : logged ≡ countsAfter e counts) where
+    module _ (logged : Counts) (logs : logged ≡ countsNext process e counts) where
       -- the counts are those after it, whatever the tables are
-      on : {sent′ received′ : List ℕ} → Standing n (countIn es) (viewLogged n es .S) (countIn (done ++ e ∷ [])) sent′
-          → Standing n (countIn es) (viewLogged n es .R) (countIn (done ++ e ∷ [])) received′
+      on : {sent′ received′ : List ℕ} → Standing n (countIn es) (viewBuilt n es .S) (countIn (done ++ e ∷ [])) sent′
+          → Standing n (countIn es) (viewBuilt n es .R) (countIn (done ++ e ∷ [])) received′
           → Filling n es s sent′ received′ (set all j logged) after
       on sent-rows received-rows =
           record {
@@ -174,7 +187,7 @@ module _ {n : ℕ} {es : List Event} {s first sent received : List ℕ} {all : L
             events = events-again;
             whole = sym (ap (λ (r : Events). r .whole) (events-more s next e after (turn .stands))) ∙ turn .inv .whole;
             few = omega (arith, length-append done (e ∷ []), turn .inv .few, turn .stands .onward);
-            counted = ap (set all j) (logs ∙ ap (countsAfter e) counts-are)
+            counted = ap (set all j) (logs ∙ sym (next-own process e counts (sym (turn .named))) ∙ ap (countsAfter e) counts-are)
                 ∙ ap₂ (λ (l : List Counts) (i : ℕ). set l (i - 1) (countsAfter e (countsOver (processOf e) done))) (turn .inv .counted) (turn .named)
                 ∙ all-more done e (in-n .0) (omega (arith, in-n .1, accepted .few)) (partner-named n e (accepted .few) (passes .named));
             sent-rows = sent-rows;
@@ -249,7 +262,7 @@ module _ {n : ℕ} {es : List Event} {s first sent received : List ℕ} {all : L
             (ap length are ∙ length-tab mostProcesses counted)
             (λ p h. ap (λ (l : List ℕ). getD l p 0) are ∙ getD-tab mostProcesses counted p 0 h ∙ entry p))
 
-      pub filling-more : (logged : Counts) → logged ≡ countsAfter e counts → (sent′ received′ : List ℕ)
+      pub filling-more : (logged : Counts) → logged ≡ countsNext process e counts → (sent′ received′ : List ℕ)
           → sent′ ≡ sets sent (row * rowWidth) (counts .sent) → received′ ≡ sets received (row * rowWidth) (counts .received)
           → Filling n es s sent′ received′ (set all j logged) after
       filling-more logged logs sent′ received′ put put′ =
@@ -274,12 +287,12 @@ module _ {n : ℕ} {es : List Event} {s sent received : List ℕ} {all : List Co
   same-counts : (j : ℕ) → j < n → countIn es j ≡ countIn (inv .done) j
   same-counts j m = ap (λ (l : List Event). countIn l j) all-done
 
-  pub sent-filled : sent ≡ sentTable (bookLogged n es)
+  pub sent-filled : sent ≡ sentTable (bookBuilt n es)
   sent-filled =
       standing-all (standing-as (inv .sent-rows) (countIn es) same-counts) (accepted .in-all)
-      ∙ sym (sent-rows-shown (viewLogged n es) (accepted .few) (sent-elsewhere accepted))
+      ∙ sym (sent-rows-shown (viewBuilt n es) (accepted .few) (sent-elsewhere accepted))
 
-  pub received-filled : received ≡ receivedTable (bookLogged n es)
+  pub received-filled : received ≡ receivedTable (bookBuilt n es)
   received-filled =
       standing-all (standing-as (inv .received-rows) (countIn es) same-counts) (accepted .in-all)
-      ∙ sym (received-rows-shown (viewLogged n es) (accepted .few) (received-elsewhere accepted))
+      ∙ sym (received-rows-shown (viewBuilt n es) (accepted .few) (received-elsewhere accepted))

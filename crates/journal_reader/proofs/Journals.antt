@@ -21,8 +21,8 @@ use Rattle.book.proofs.Questions.{then-passed, then-refused, ask-no}
 use Rattle.journal.specs.Bounds.{journalGroups, journalLargest}
 use Rattle.journal.specs.Events.{eventsIn}
 use Rattle.journal.specs.Questions.{eventsQuestion, journalNumbersQuestion}
-use Rattle.journal.specs.Logged.{bookLogged}
-use Rattle.journal.specs.Calls.{numbersLogged, endAtBytes, journalQuestion, journalBook, shapeLogged}
+use Rattle.journal.specs.Built.{bookBuilt}
+use Rattle.journal.specs.Calls.{numbersLogged, numbersEnd, journalQuestion, journalBook, shapeBuilt}
 use Rattle.journal.specs.Parts.{eventsFrom}
 use Rattle.journal.proofs.Reading.{journal-begins}
 use Rattle.journal_reader.specs.declared.asking.Asked.{Asked}
@@ -34,7 +34,7 @@ use Rattle.journal_reader.proofs.Answers.{answered-no}
 -- what is answered to numbers, of which n comes first
 abbrev answerOf : Bool → List ℕ → Asked
 answerOf ended vs =
-    answered (journalNumbersQuestion ended vs) (shapeOf (bookLogged (getD vs 0 0) (eventsIn ended (drop 1 vs) .found)))
+    answered (journalNumbersQuestion ended vs) (shapeOf (bookBuilt (getD vs 0 0) (eventsIn ended (drop 1 vs) .found)))
 
 question-begins : (ended : Bool) (n : ℕ) (vs : List ℕ)
     → journalNumbersQuestion ended (n ∷ vs)
@@ -50,15 +50,15 @@ module _ (s : List ℕ) where
   pub journal-unread : readNumber journalGroups journalLargest s 0 ≡ Refused → (r : Asked) → r ≡ refusal 3 → JournalTaken s r
   journal-unread e r er =
       let none : numbersLogged s 0 .found ≡ [] = ap (λ (ns : Numbers). ns .found) (numbers-none journalGroups journalLargest s 0 e) in
-      answered-no _ _ 3 r er (sym (ap (journalNumbersQuestion (endAtBytes s 0)) none ∙ no-numbers (endAtBytes s 0))) (λ z. absurd (omega arith))
+      answered-no _ _ 3 r er (sym (ap (journalNumbersQuestion (numbersEnd s 0)) none ∙ no-numbers (numbersEnd s 0))) (λ z. absurd (omega arith))
 
   module _ (n at : ℕ) (read : readNumber journalGroups journalLargest s 0 ≡ Number n at) where
-    begins : answerOf (endAtBytes s 0) (numbersLogged s 0 .found) ≡ answerOf (endAtBytes s at) (n ∷ numbersLogged s at .found)
+    begins : answerOf (numbersEnd s 0) (numbersLogged s 0 .found) ≡ answerOf (numbersEnd s at) (n ∷ numbersLogged s at .found)
     begins = let is = journal-begins s n at read in ap₂ answerOf (is .1) (is .0)
 
-    along : journalNumbersQuestion (endAtBytes s at) (n ∷ numbersLogged s at .found)
+    along : journalNumbersQuestion (numbersEnd s at) (n ∷ numbersLogged s at .found)
         ≡ (sizeQuestion n then λ _. eventsQuestion n [] (eventsFrom s at .found) (eventsFrom s at .whole))
-    along = question-begins (endAtBytes s at) n (numbersLogged s at .found)
+    along = question-begins (numbersEnd s at) n (numbersLogged s at .found)
 
     -- n fails question 4
     pub journal-size : sizeQuestion n ≡ 4 → (r : Asked) → r ≡ refusal 4 → JournalTaken s r
@@ -70,19 +70,19 @@ module _ (s : List ℕ) where
     pub journal-taken : sizeQuestion n ≡ 0 → (r : Asked) → EventsTaken n s at r → JournalTaken s r
     journal-taken none r did =
         did
-        ∙ ap (λ (q : ℕ). answered q (shapeOf (bookLogged n (eventsFrom s at .found)))) (sym (along ∙ then-passed (sizeQuestion n) _ none))
+        ∙ ap (λ (q : ℕ). answered q (shapeOf (bookBuilt n (eventsFrom s at .found)))) (sym (along ∙ then-passed (sizeQuestion n) _ none))
         ∙ sym begins
 
 -- ---- questions 1 and 2
 
 -- what is promised of the answer
 abbrev Promised : List ℕ → List ℕ → List ℕ → Asked → Type 0
-Promised bytes sent received r = (r .question ≡ journalQuestion bytes sent received) × (r .shape ≡ shapeLogged bytes sent received)
+Promised bytes sent received r = (r .question ≡ journalQuestion bytes sent received) × (r .shape ≡ shapeBuilt bytes sent received)
 
 module _ (bytes sent received : List ℕ) where
   -- what is asked along the numbers
   rest : ℕ
-  rest = journalNumbersQuestion (endAtBytes bytes 0) (numbersLogged bytes 0 .found)
+  rest = journalNumbersQuestion (numbersEnd bytes 0) (numbersLogged bytes 0 .found)
 
   parts : journalQuestion bytes sent received ≡ (bytesQuestion bytes then λ _. lengthQuestion sent received then λ _. rest)
   unfolding journalQuestion rest
@@ -90,7 +90,7 @@ module _ (bytes sent received : List ℕ) where
 
   both : (r : Asked) → r ≡ answered (journalQuestion bytes sent received) (shapeOf (journalBook bytes))
       → Promised bytes sent received r
-  unfolding shapeLogged
+  unfolding shapeBuilt
   both r e = (ap (λ (x : Asked). x .question) e, ap (λ (x : Asked). x .shape) e)
 
   pub bytes-refused : mostBytes < length bytes → (r : Asked) → r ≡ refusal 1

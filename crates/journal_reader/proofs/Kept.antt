@@ -15,20 +15,20 @@ use Rattle.book.specs.Bounds.{mostProcesses, mostCheckpoints, mostBytes, rowWid
 use Rattle.book.specs.Tables.{padded}
 use Rattle.journal.specs.declared.Event.{Event}
 use Rattle.journal.specs.declared.Event.the-variants.{Sent, Received, Checkpointed}
-use Rattle.journal.specs.Counting.{howMany, isSending, isReceipt, isCheckpoint}
-use Rattle.journal.specs.Questions.{checkpointCount, checkpointsInAll}
+use Rattle.journal.specs.Counting.{howMany, isSending, isReceipt, isCheckpoint, checkpointCount}
+use Rattle.journal.specs.Questions.{checkpointsInAll}
 use Rattle.journal.proofs.Accepted.{in-all-first}
 use Rattle.journal.proofs.Counting.{pair-yes, pair-no, one-more, no-more, how-many-few}
-use Rattle.journal_reader.specs.Asking.{channelPlace, channels, IsPlace, Kept, noneUnderway, firstCounts, HasRoom, raised, lowered}
+use Rattle.journal_reader.specs.Asking.{channelPlace, channels, HasChannels, Kept, noneUnderway, firstCounts, HasRoom, raised, lowered}
 use Rattle.journal_reader.proofs.Padded.{padded-long, padded-at, padded-past, padded-raised}
 
 -- ---- places
 
 -- a place is that of one channel
-same-channel : (p j a b : ℕ) → IsPlace p → IsPlace j → IsPlace a → IsPlace b → channelPlace p j ≡ channelPlace a b → (p ≡ a) × (j ≡ b)
+same-channel : (p j a b : ℕ) → HasChannels p → HasChannels j → HasChannels a → HasChannels b → channelPlace p j ≡ channelPlace a b → (p ≡ a) × (j ≡ b)
 same-channel p j a b hp hj ha hb e = (omega arith, omega arith)
 
-place-within : (p j : ℕ) → IsPlace p → IsPlace j → channelPlace p j < channels
+place-within : (p j : ℕ) → HasChannels p → HasChannels j → channelPlace p j < channels
 place-within p j hp hj = omega arith
 
 -- every place is one
@@ -72,7 +72,7 @@ module _ (n : ℕ) (before : List Event) (underway counts : List ℕ) (total : �
     pub total-stays : total ≡ checkpointsInAll n (before ++ e ∷ [])
     total-stays = kept .in-all ∙ sum-ext n _ _ (λ j h. count-stays j)
 
-  module _ (process partner : Process) (hp : IsPlace (process .0)) (hq : IsPlace (partner .0)) (long : length underway ≡ channels) where
+  module _ (process partner : Process) (hp : HasChannels (process .0)) (hq : HasChannels (partner .0)) (long : length underway ≡ channels) where
     pub kept-sending : Kept n (before ++ Sent process partner ∷ []) (raised (channelPlace (process .0) (partner .0)) underway) counts total
     kept-sending =
         record {

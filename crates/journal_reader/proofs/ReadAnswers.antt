@@ -9,19 +9,19 @@ use Rattle.book.specs.Read.{noShape}
 use Rattle.book.specs.Tables.{shapeOf, sentTable, receivedTable}
 use Rattle.book.specs.InTurn.{answerTo}
 use Rattle.book.proofs.Questions.{answer-passed, answer-refused, kept-passed, kept-refused}
-use Rattle.journal.specs.Calls.{journalQuestion, journalBook, shapeLogged, sentLogged, receivedLogged}
+use Rattle.journal.specs.Calls.{journalQuestion, journalBook, shapeBuilt, sentBuilt, receivedBuilt}
 
 module _ (s sent received : List ℕ) (q : ℕ) (shape : Shape) (asked : q ≡ journalQuestion s sent received)
-    (shaped : shape ≡ shapeLogged s sent received) where
+    (shaped : shape ≡ shapeBuilt s sent received) where
   -- what is promised
   abbrev Promised : Answer → List ℕ → List ℕ → Type 0
   Promised answer sent′ received′ =
       (answer ≡ answerTo (journalQuestion s sent received))
-      × ((shape ≡ shapeLogged s sent received)
-      × ((sent′ ≡ sentLogged s sent received) × (received′ ≡ receivedLogged s sent received)))
+      × ((shape ≡ shapeBuilt s sent received)
+      × ((sent′ ≡ sentBuilt s sent received) × (received′ ≡ receivedBuilt s sent received)))
 
   pub read-refused : (q ≡ 0 → ⊥) → Promised (Refused q) sent received
-  unfolding sentLogged receivedLogged
+  unfolding sentBuilt receivedBuilt
   read-refused ne =
       let ne′ : journalQuestion s sent received ≡ 0 → ⊥ = λ z. ne (asked ∙ z) in (
         ap Refused asked ∙ sym (answer-refused (journalQuestion s sent received) ne′),
@@ -39,12 +39,12 @@ module _ (s sent received : List ℕ) (q : ℕ) (shape : Shape) (asked : q ≡ j
     read-passed = sym asked ∙ z
 
     pub read-shape : shape ≡ shapeOf (journalBook s)
-    unfolding shapeLogged
+    unfolding shapeBuilt
     read-shape = shaped ∙ kept-passed (journalQuestion s sent received) noShape (shapeOf (journalBook s)) read-passed
 
     pub read-accepted : (sent′ received′ : List ℕ) → sent′ ≡ sentTable (journalBook s) → received′ ≡ receivedTable (journalBook s)
         → Promised Accepted sent′ received′
-    unfolding sentLogged receivedLogged
+    unfolding sentBuilt receivedBuilt
     read-accepted sent′ received′ filled filled′ = (
       sym (answer-passed (journalQuestion s sent received) read-passed),
       (

@@ -19,7 +19,7 @@ use Rattle.journal.specs.declared.Event.the-variants.{Sent, Received, Checkpoin
 use Rattle.journal.specs.Counting.{isCheckpoint, underway}
 use Rattle.journal.specs.Questions.{checkpointsInAll, eventNamed, somethingUnderway, eventQuestion}
 use Rattle.journal.proofs.Counting.{underway-is}
-use Rattle.journal_reader.specs.Asking.{channelPlace, IsPlace, Kept, HasRoom, areNamed, receiptQuestion, savingQuestion, SendingTaken, ReceiptTaken, CheckpointTaken, EventTaken}
+use Rattle.journal_reader.specs.Asking.{channelPlace, HasChannels, Kept, HasRoom, areNamed, receiptQuestion, checkpointEventQuestion, SendingTaken, ReceiptTaken, CheckpointTaken, EventTaken}
 use Rattle.journal_reader.proofs.Kept.{total-stays, total-more, kept-sending, kept-receipt, kept-checkpoint}
 
 -- ---- questions in turn
@@ -36,10 +36,10 @@ then-alike (suc q) f g h = refl
 
 -- ---- processes named
 
-named-place : (n process : ℕ) → n ≤ mostProcesses → isNamed n process ≡ true → IsPlace process
+named-place : (n process : ℕ) → n ≤ mostProcesses → isNamed n process ≡ true → HasChannels process
 named-place n process few h = let i = named-in n process h in (i .0, omega arith)
 
-pub named-places : (n process partner : ℕ) → n ≤ mostProcesses → areNamed n process partner ≡ true → IsPlace process × IsPlace partner
+pub named-places : (n process partner : ℕ) → n ≤ mostProcesses → areNamed n process partner ≡ true → HasChannels process × HasChannels partner
 named-places n process partner few h =
     let b = and-both (isNamed n process) (isNamed n partner) h in
     (named-place n process few (b .0), named-place n partner few (b .1))
@@ -60,14 +60,14 @@ module _ (n process partner : ℕ) (messages : List ℕ) where
         rw (named, ← at, le-leb 1 (getD messages c 0) (omega arith))
 
 module _ (n process total : ℕ) where
-  pub checkpoint-unnamed : isNamed n process ≡ false → 10 ≡ savingQuestion n process total
+  pub checkpoint-unnamed : isNamed n process ≡ false → 10 ≡ checkpointEventQuestion n process total
   checkpoint-unnamed h = rw h
 
   module _ (named : isNamed n process ≡ true) where
-    pub checkpoint-many : mostCheckpoints ≤ total → 5 ≡ savingQuestion n process total
+    pub checkpoint-many : mostCheckpoints ≤ total → 5 ≡ checkpointEventQuestion n process total
     checkpoint-many h = rw (named, lt-leb (total + 1) mostCheckpoints (omega arith))
 
-    pub checkpoint-few : total < mostCheckpoints → 0 ≡ savingQuestion n process total
+    pub checkpoint-few : total < mostCheckpoints → 0 ≡ checkpointEventQuestion n process total
     checkpoint-few h = rw (named, le-leb (total + 1) mostCheckpoints (omega arith))
 
 -- ---- the question of an event
@@ -100,7 +100,7 @@ module _ (n : ℕ) (before : List Event) (messages counts : List ℕ) (total : �
       (five-stays within (Sent process partner) (λ j. refl))
 
   -- what is underway is what is kept
-  underway-kept : (p j : ℕ) → IsPlace p → IsPlace j → getD messages (channelPlace p j) 0 ≡ underway p j before
+  underway-kept : (p j : ℕ) → HasChannels p → HasChannels j → getD messages (channelPlace p j) 0 ≡ underway p j before
   underway-kept p j hp hj = let was = kept .messages p j hp hj in omega (arith, underway-is p j before)
 
   receipt-asked : (process partner : Process) → total ≤ mostCheckpoints → n ≤ mostProcesses
@@ -114,7 +114,7 @@ module _ (n : ℕ) (before : List Event) (messages counts : List ℕ) (total : �
       (λ _. ask 5 (leb (checkpointsInAll n (before ++ Received process partner ∷ [])) mostCheckpoints))
       (five-stays within (Received process partner) (λ j. refl)))
 
-  checkpoint-asked : (process : Process) → savingQuestion n (process .0) total ≡ eventQuestion n before (Checkpointed process)
+  checkpoint-asked : (process : Process) → checkpointEventQuestion n (process .0) total ≡ eventQuestion n before (Checkpointed process)
   unfolding eventQuestion
   checkpoint-asked process =
       then-alike (ask 10 (isNamed n (process .0))) _ _ (λ z.

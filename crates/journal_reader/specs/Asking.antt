@@ -13,10 +13,10 @@ use Rattle.book.specs.Tables.{padded, shapeOf}
 use Rattle.book.specs.Read.{noShape}
 use Rattle.book.specs.InTurn.{_then_, ask, unlessRefused}
 use Rattle.journal.specs.declared.Event.{Event}
-use Rattle.journal.specs.Counting.{sendings, receipts}
-use Rattle.journal.specs.Questions.{checkpointCount, checkpointsInAll, eventQuestion, eventsQuestion, journalNumbersQuestion}
-use Rattle.journal.specs.Logged.{bookLogged}
-use Rattle.journal.specs.Calls.{numbersLogged, endAtBytes, journalBook}
+use Rattle.journal.specs.Counting.{sendings, receipts, checkpointCount}
+use Rattle.journal.specs.Questions.{checkpointsInAll, eventQuestion, eventsQuestion, journalNumbersQuestion}
+use Rattle.journal.specs.Built.{bookBuilt}
+use Rattle.journal.specs.Calls.{numbersLogged, numbersEnd, journalBook}
 use Rattle.journal.specs.Parts.{eventsFrom}
 use Rattle.journal_reader.specs.declared.asking.Asked.{Asked}
 use Rattle.journal_reader.specs.declared.asking.Step.{Step}
@@ -31,8 +31,8 @@ abbrev pub channels : ℕ
 channels = mostProcesses * rowWidth
 
 -- a process that has channels there
-abbrev pub IsPlace : ℕ → Type 0
-IsPlace process = (1 ≤ process) × (process ≤ mostProcesses)
+abbrev pub HasChannels : ℕ → Type 0
+HasChannels process = (1 ≤ process) × (process ≤ mostProcesses)
 
 -- the place of a channel was found, and the kept list reaches to it
 pub record ChannelFound (sender receiver place : ℕ) : Type 0 where
@@ -42,7 +42,7 @@ pub record ChannelFound (sender receiver place : ℕ) : Type 0 where
 -- what is kept after these events: for each channel how many messages are underway, and the checkpoints of each process and of all
 pub record Kept (n : ℕ) (before : List Event) (underway counts : List ℕ) (total : ℕ) : Type 0 where
   pub messages :
-      (p j : ℕ) → IsPlace p → IsPlace j → getD underway (channelPlace p j) 0 + receipts j p before ≡ sendings p j before
+      (p j : ℕ) → HasChannels p → HasChannels j → getD underway (channelPlace p j) 0 + receipts j p before ≡ sendings p j before
   pub checkpoints : counts ≡ padded mostProcesses (tab n (λ j. checkpointCount (suc j) before))
   pub in-all : total ≡ checkpointsInAll n before
 
@@ -91,8 +91,8 @@ abbrev pub receiptQuestion : ℕ → ℕ → ℕ → List ℕ → ℕ
 receiptQuestion n process partner underway =
     ask 10 (areNamed n process partner) then λ _. ask 20 (leb 1 (getD underway (channelPlace partner process) 0))
 
-abbrev pub savingQuestion : ℕ → ℕ → ℕ → ℕ
-savingQuestion n process total = ask 10 (isNamed n process) then λ _. ask 5 (leb (total + 1) mostCheckpoints)
+abbrev pub checkpointEventQuestion : ℕ → ℕ → ℕ → ℕ
+checkpointEventQuestion n process total = ask 10 (isNamed n process) then λ _. ask 5 (leb (total + 1) mostCheckpoints)
 
 -- a receipt was taken: one less is underway, where there was one
 pub record ReceiptTaken (n process partner : ℕ) (underway₀ : List ℕ) (question : ℕ) (underway : List ℕ) : Type 0 where
@@ -101,7 +101,7 @@ pub record ReceiptTaken (n process partner : ℕ) (underway₀ : List ℕ) (ques
 
 -- a checkpoint was taken: the process has one more
 pub record CheckpointTaken (n process : ℕ) (counts₀ : List ℕ) (total question : ℕ) (counts : List ℕ) : Type 0 where
-  pub asked : question ≡ savingQuestion n process total
+  pub asked : question ≡ checkpointEventQuestion n process total
   pub taken : question ≡ 0 → counts ≡ raised (process - 1) counts₀
 
 -- one event was taken, whatever events came before it
@@ -126,9 +126,9 @@ abbrev pub EventsTaken : ℕ → List ℕ → ℕ → Asked → Type 0
 EventsTaken n s at r =
     r
     ≡ answered (eventsQuestion n [] (eventsFrom s at .found) (eventsFrom s at .whole))
-    (shapeOf (bookLogged n (eventsFrom s at .found)))
+    (shapeOf (bookBuilt n (eventsFrom s at .found)))
 
 -- a whole journal was taken, whatever tables are lent
 abbrev pub JournalTaken : List ℕ → Asked → Type 0
 JournalTaken s r =
-    r ≡ answered (journalNumbersQuestion (endAtBytes s 0) (numbersLogged s 0 .found)) (shapeOf (journalBook s))
+    r ≡ answered (journalNumbersQuestion (numbersEnd s 0) (numbersLogged s 0 .found)) (shapeOf (journalBook s))

@@ -12,7 +12,7 @@ use Rattle.book.specs.View.{firstRows}
 use Rattle.journal.specs.declared.Event.{Event}
 use Rattle.journal.specs.declared.Event.the-variants.{Sent, Received, Checkpointed}
 use Rattle.journal.specs.Bounds.{journalGroups, journalLargest}
-use Rattle.journal.specs.Calls.{numbersLogged, endAtBytes, leadingN, journalBook}
+use Rattle.journal.specs.Calls.{numbersLogged, numbersEnd, leadingN, journalBook}
 use Rattle.journal.specs.Questions.{journalNumbersQuestion}
 
 -- is it a checkpoint, of whatever process?
@@ -34,7 +34,7 @@ pub record IsClear (table : List ℕ) : Type 0 where
 -- an accepted journal, the place of its first event, the first rows of its book's processes, and clear tables
 pub record ToFill (s : List ℕ) (at : ℕ) (first sent received : List ℕ) : Type 0 where
   pub short : length s ≤ mostBytes
-  pub passed : journalNumbersQuestion (endAtBytes s 0) (numbersLogged s 0 .found) ≡ 0
+  pub passed : journalNumbersQuestion (numbersEnd s 0) (numbersLogged s 0 .found) ≡ 0
   pub leads : readNumber journalGroups journalLargest s 0 ≡ Number (leadingN s) at
   pub starts : first ≡ firstRows (shapeOf (journalBook s) .counts)
   pub sent-clear : IsClear sent

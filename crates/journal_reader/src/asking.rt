@@ -9,8 +9,8 @@ ghost use mathlib.Core.Path.{_≡_};
 ghost use Prim.Native.Nat.{_≤_, _<_};
 ghost use lib.ListN.{length};
 ghost use Rattle.book.specs.Bounds.{mostProcesses, mostBytes};
-ghost use Rattle.journal.specs.Calls.{journalQuestion, shapeLogged};
-ghost use Rattle.journal_reader.specs.Asking.{ChannelFound, channels, IsPlace, areNamed, noneUnderway, firstCounts};
+ghost use Rattle.journal.specs.Calls.{journalQuestion, shapeBuilt};
+ghost use Rattle.journal_reader.specs.Asking.{ChannelFound, channels, HasChannels, areNamed, noneUnderway, firstCounts};
 ghost use Rattle.journal_reader.specs.Asking.{MessagesFit, CountsFit, HasRoom, refusal};
 ghost use Rattle.journal_reader.specs.Asking.{SendingTaken, ReceiptTaken, CheckpointTaken, EventTaken, EventsTaken, JournalTaken};
 
@@ -60,7 +60,7 @@ fn first_counts(n: usize) -> [usize; 16]
 
 // The place of a channel among those underway.
 fn channel(sender: Process, receiver: Process) -> usize
-    requires { ⌜ IsPlace (sender .0) × IsPlace (receiver .0) ⌝ }
+    requires { ⌜ HasChannels (sender .0) × HasChannels (receiver .0) ⌝ }
     ensures { λ r. ⌜ ChannelFound (sender .0) (receiver .0) r ⌝ }
 {
     (sender.0 - 1) * book::ROW_WIDTH + (receiver.0 - 1)
@@ -179,7 +179,7 @@ fn take_journal(s: &[u8]) -> Asked
     requires { ⌜ length (now s) ≤ mostBytes ⌝ }
     ensures { λ r. ⌜ JournalTaken (now (s .entry)) r ⌝ }
 {
-    let Numeral::Number(n, at) = varint::read_short(s, 0, journal::LARGEST) else {
+    let Numeral::Number(n, at) = varint::read_number(s, 0, journal::GROUPS, journal::LARGEST) else {
         return refused(3);
     };
     if n < 1 {
@@ -194,7 +194,7 @@ fn take_journal(s: &[u8]) -> Asked
 // Every question of a journal: the first that fails, 0 for none, and the shape of the book that it builds.
 pub fn question(bytes: &[u8], sent: &[Counter], received: &[Counter]) -> Asked
     ensures question { λ r. ⌜ r .question ≡ journalQuestion (now (bytes .entry)) (now (sent .entry)) (now (received .entry)) ⌝ }
-    ensures shape { λ r. ⌜ r .shape ≡ shapeLogged (now (bytes .entry)) (now (sent .entry)) (now (received .entry)) ⌝ }
+    ensures shape { λ r. ⌜ r .shape ≡ shapeBuilt (now (bytes .entry)) (now (sent .entry)) (now (received .entry)) ⌝ }
 {
     if book::MOST_BYTES < bytes.len() {
         return refused(1);

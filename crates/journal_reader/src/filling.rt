@@ -1,9 +1,7 @@
 // The pass that fills the tables of an accepted journal.
 use book::Counter;
-use book::Process;
 use book::Shape;
 use journal::Event;
-use journal::EventRead;
 use journal::counts::Counts;
 use varint::Numeral;
 ghost use mathlib.Core.Path.{_≡_};
@@ -12,19 +10,7 @@ ghost use lib.Seq.{sets};
 ghost use Rattle.book.specs.Bounds.{rowWidth};
 ghost use Rattle.book.specs.Tables.{shapeOf, sentTable, receivedTable};
 ghost use Rattle.journal.specs.Calls.{journalQuestion, journalBook};
-ghost use Rattle.journal.specs.Running.{processOf};
 ghost use Rattle.journal_reader.specs.Filling.{isCheckpointEvent, IsRow, ToFill};
-
-// The process that an event names first, whose counts it changes.
-fn process_of(event: Event) -> Process
-    ensures { λ r. ⌜ r .0 ≡ processOf event ⌝ }
-{
-    match event {
-        Event::Sent(process, _) => process,
-        Event::Received(process, _) => process,
-        Event::Checkpointed(process) => process,
-    }
-}
 
 fn is_checkpoint(event: Event) -> bool
     ensures { λ r. ⌜ r ≡ isCheckpointEvent event ⌝ }
@@ -37,13 +23,13 @@ fn is_checkpoint(event: Event) -> bool
 }
 
 // A row of counters put at its place.
-fn put_row(table: &mut [Counter], row: usize, counters: [Counter; 16])
+fn put_row(table: &mut [Counter], row: usize, counters: [u16; 16])
     requires { ⌜ IsRow row (now table) ⌝ }
     ensures { λ _. ⌜ now (table .exit) ≡ sets (now (table .entry)) (row * rowWidth) counters ⌝ }
 {
     let mut p = 0;
     while p < book::ROW_WIDTH {
-        table[row * book::ROW_WIDTH + p] = counters[p];
+        table[row * book::ROW_WIDTH + p] = counters[p] as Counter;
         p += 1;
     }
 }
@@ -75,17 +61,16 @@ fn put_events(
     let mut all = [Counts::none(); 16];
     let mut next = at;
     while next < s.len() {
-        let EventRead::Found(event, after) = journal::read_event(s, next) else {
-            return;
-        };
-        let process = process_of(event);
+        let found = journal::accepted_event(s, next);
+        let event = found.event;
+        let process = journal::process_of(event);
         let j = process.0 - 1;
         let counts = all[j];
         if is_checkpoint(event) {
             put_rows(sent, received, first[j] + counts.checkpoints, counts);
         }
-        all[j] = journal::counts::logged(counts, event);
-        next = after;
+        all[j] = journal::counts::after_event(counts, process, event);
+        next = found.next;
     }
 }
 
@@ -100,7 +85,8 @@ pub fn fill(bytes: &[u8], shape: Shape, sent: &mut [Counter], received: &mut [Co
     book::clear(received, 0, book::ENTRIES);
     let rows = book::rows_of(shape);
     let first = rows.first;
-    let Numeral::Number(_, at) = varint::read_short(bytes, 0, journal::LARGEST) else {
+    let Numeral::Number(_, at) = varint::read_number(bytes, 0, journal::GROUPS, journal::LARGEST)
+    else {
         return;
     };
     put_events(bytes, at, first, sent, received);

@@ -8,7 +8,7 @@ use book::Counter;
 use book::Shape;
 ghost use mathlib.Core.Path.{_≡_};
 ghost use Rattle.book.specs.InTurn.{answerTo};
-ghost use Rattle.journal.specs.Calls.{journalQuestion, shapeLogged, sentLogged, receivedLogged};
+ghost use Rattle.journal.specs.Calls.{journalQuestion, shapeBuilt, sentBuilt, receivedBuilt};
 
 // The answer to a journal, with the shape of the book that it builds beside it; a refusal has zeros there.
 pub struct JournalRead {
@@ -19,9 +19,9 @@ pub struct JournalRead {
 // A journal's bytes taken into the lent tables, or refused by the first question that fails, the tables then unchanged.
 pub fn read(bytes: &[u8], sent: &mut [Counter], received: &mut [Counter]) -> JournalRead
     ensures answer { λ r. ⌜ r .answer ≡ answerTo (journalQuestion (now (bytes .entry)) (now (sent .entry)) (now (received .entry))) ⌝ }
-    ensures shape { λ r. ⌜ r .shape ≡ shapeLogged (now (bytes .entry)) (now (sent .entry)) (now (received .entry)) ⌝ }
-    ensures sent { λ _. ⌜ now (sent .exit) ≡ sentLogged (now (bytes .entry)) (now (sent .entry)) (now (received .entry)) ⌝ }
-    ensures received { λ _. ⌜ now (received .exit) ≡ receivedLogged (now (bytes .entry)) (now (sent .entry)) (now (received .entry)) ⌝ }
+    ensures shape { λ r. ⌜ r .shape ≡ shapeBuilt (now (bytes .entry)) (now (sent .entry)) (now (received .entry)) ⌝ }
+    ensures sent { λ _. ⌜ now (sent .exit) ≡ sentBuilt (now (bytes .entry)) (now (sent .entry)) (now (received .entry)) ⌝ }
+    ensures received { λ _. ⌜ now (received .exit) ≡ receivedBuilt (now (bytes .entry)) (now (sent .entry)) (now (received .entry)) ⌝ }
 {
     let asked = asking::question(bytes, sent, received);
     let shape = asked.shape;

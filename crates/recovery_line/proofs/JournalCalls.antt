@@ -6,7 +6,7 @@ use Rattle.book.specs.declared.Answer.{Answer}
 use Rattle.book.specs.declared.Shape.{Shape}
 use Rattle.book.specs.Tables.{sentTable, receivedTable}
 use Rattle.book.specs.InTurn.{answerTo}
-use Rattle.journal.specs.Calls.{journalBook, journalQuestion, shapeLogged, sentLogged, receivedLogged}
+use Rattle.journal.specs.Calls.{journalBook, journalQuestion, shapeBuilt, sentBuilt, receivedBuilt}
 use Rattle.words.specs.Plain.{numberOf, shapeWords}
 use Rattle.recovery_line.specs.Books.{shapeQuestion}
 use Rattle.recovery_line.specs.Journals.{journalAnswer, journalShape, journalSent, journalReceived}
@@ -24,22 +24,22 @@ module _ (bytes shape sent received : List ℕ) {q : ℕ} (same : q ≡ shapeQue
   question = journalQuestion bytes sent received
 
   pub journal-wrong : (q ≡ 0 → ⊥) → Journal q shape sent received
-  unfolding journalAnswer journalShape journalSent journalReceived sentLogged receivedLogged
+  unfolding journalAnswer journalShape journalSent journalReceived sentBuilt receivedBuilt
   journal-wrong =
-      taken-wrong question (shapeLogged bytes sent received) (sentTable (journalBook bytes)) (receivedTable (journalBook bytes)) shape sent received same
+      taken-wrong question (shapeBuilt bytes sent received) (sentTable (journalBook bytes)) (receivedTable (journalBook bytes)) shape sent received same
 
   module _ (none : q ≡ 0) {answer : Answer} {r : ℕ} (number : r ≡ numberOf answer) (answers : answer ≡ answerTo question)
-      {sent′ received′ : List ℕ} (left : sent′ ≡ sentLogged bytes sent received) (left′ : received′ ≡ receivedLogged bytes sent received)
+      {sent′ received′ : List ℕ} (left : sent′ ≡ sentBuilt bytes sent received) (left′ : received′ ≡ receivedBuilt bytes sent received)
     where
       pub journal-refused : (r ≡ 0 → ⊥) → Journal r shape sent′ received′
-      unfolding journalAnswer journalShape journalSent journalReceived sentLogged receivedLogged
+      unfolding journalAnswer journalShape journalSent journalReceived sentBuilt receivedBuilt
       journal-refused =
-          taken-refused question (shapeLogged bytes sent received) (sentTable (journalBook bytes)) (receivedTable (journalBook bytes)) shape sent received
+          taken-refused question (shapeBuilt bytes sent received) (sentTable (journalBook bytes)) (receivedTable (journalBook bytes)) shape sent received
           same none number answers left left′
 
-      pub journal-taken : r ≡ 0 → {taken : Shape} → taken ≡ shapeLogged bytes sent received → {shape′ : List ℕ} → shape′ ≡ shapeWords taken
+      pub journal-taken : r ≡ 0 → {taken : Shape} → taken ≡ shapeBuilt bytes sent received → {shape′ : List ℕ} → shape′ ≡ shapeWords taken
           → Journal 0 shape′ sent′ received′
-      unfolding journalAnswer journalShape journalSent journalReceived sentLogged receivedLogged
+      unfolding journalAnswer journalShape journalSent journalReceived sentBuilt receivedBuilt
       journal-taken =
-          taken-whole question (shapeLogged bytes sent received) (sentTable (journalBook bytes)) (receivedTable (journalBook bytes)) shape sent received
+          taken-whole question (shapeBuilt bytes sent received) (sentTable (journalBook bytes)) (receivedTable (journalBook bytes)) shape sent received
           same none number answers left left′

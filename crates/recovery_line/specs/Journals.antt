@@ -3,7 +3,7 @@
 use mathlib.Core.List.{List}
 use Prim.Native.Nat.{ℕ}
 use Rattle.book.specs.InTurn.{_then_, unlessRefused}
-use Rattle.journal.specs.Calls.{journalQuestion, shapeLogged, sentLogged, receivedLogged}
+use Rattle.journal.specs.Calls.{journalQuestion, shapeBuilt, sentBuilt, receivedBuilt}
 use Rattle.words.specs.Plain.{shapeWords}
 use Rattle.recovery_line.specs.Books.{shapeQuestion}
 
@@ -12,10 +12,10 @@ module _ (bytes shape sent received : List ℕ) where
   journalAnswer = shapeQuestion shape then λ _. journalQuestion bytes sent received
 
   unfoldable pub journalShape : List ℕ
-  journalShape = unlessRefused journalAnswer shape (shapeWords (shapeLogged bytes sent received))
+  journalShape = unlessRefused journalAnswer shape (shapeWords (shapeBuilt bytes sent received))
 
   unfoldable pub journalSent : List ℕ
-  journalSent = unlessRefused journalAnswer sent (sentLogged bytes sent received)
+  journalSent = unlessRefused journalAnswer sent (sentBuilt bytes sent received)
 
   unfoldable pub journalReceived : List ℕ
-  journalReceived = unlessRefused journalAnswer received (receivedLogged bytes sent received)
+  journalReceived = unlessRefused journalAnswer received (receivedBuilt bytes sent received)

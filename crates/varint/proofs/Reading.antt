@@ -8,8 +8,8 @@ use native.Mathlib.Nat.{pow-suc}
 use native.Mathlib.Decide.{decLt, decLe}
 use native.Mathlib.Omega.{arith}
 use borrow.Author.Tests.{lt-ltb, le-ltb, le-leb, lt-leb}
-use lib.ListN.{length, drop, length-append, length-drop, drop-of-length-le}
-use lib.Seq.{drop-drop, drop-length}
+use lib.ListN.{length, drop, getD, length-append, length-drop, drop-of-length-le}
+use lib.Seq.{drop-cons, drop-drop, drop-length}
 use lib.Dec.{T}
 use lib.Pow.{areBytes}
 use Rattle.varint.specs.declared.Numeral.{Numeral}
@@ -121,6 +121,27 @@ read-next g l s at v next e =
     let d = at-most-number l (readGroups g true (drop at s) at) v next e in
     let r = groups-read g true (drop at s) at v next (d .0) in
     (r .ahead, omega (arith, r .ahead, r .within, length-drop at s), d .1)
+
+-- a number below 128 is its one byte
+one-group : (g b : ℕ) (s : List ℕ) (at v next : ℕ) → readGroups g true (b ∷ s) at ≡ Number v next → v < 128 → (b ≡ v) × (next ≡ at + 1)
+unfolding readGroups
+one-group zero b s at v next e small = let z : _≡_ {A = ℕ} 0 1 = cc in absurd (omega arith)
+one-group (suc g) b s at v next e small =
+    elim (decLt b 128) [
+      | yes h ↦ let d = last-number true b (at + 1) v next (sym (groups-last g true b s at h) ∙ e) in (d .0 .same, sym (d .1))
+      | no h ↦
+          let d = above-number (b - 128) (readGroups g false s (at + 1)) v next (sym (groups-more g true b s at (omega arith)) ∙ e) in
+          let k : 1 ≤ d .high = groups-read g false s (at + 1) (d .high) next (d .read) .some refl in
+          absurd (omega (arith, d .sum))
+    ]
+
+pub read-small : (g l : ℕ) (s : List ℕ) (at v next : ℕ) → readNumber g l s at ≡ Number v next → v < 128
+    → (getD s at 0 ≡ v) × (next ≡ at + 1)
+unfolding readNumber
+read-small g l s at v next e small =
+    let n = read-next g l s at v next e in
+    let d = at-most-number l (readGroups g true (drop at s) at) v next e in
+    one-group g (getD s at 0) (drop (suc at) s) at v next (rw (drop-cons s at 0 (omega (arith, n .0, n .1))) at (d .0)) small
 
 -- no number stands at or past the end
 pub read-past : (g l : ℕ) (s : List ℕ) (at : ℕ) → length s ≤ at → readNumber g l s at ≡ Refused

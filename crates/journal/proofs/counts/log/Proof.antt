@@ -36,7 +36,7 @@ use denote.Triple.Walked.{says, needs, Stays, stay-ref, stay-none, walkOf, goes-
 use denote.Exit.{yes}
 use Rattle.journal.specs.declared.counts.Counts.{Counts}
 use Rattle.journal.specs.declared.Event.{Event}
-use Rattle.journal.specs.Running.{countsAfter, Countable}
+use Rattle.journal.specs.Running.{countsAfter, HasRoomFor}
 use Rattle.journal.proofs.Lent.{CountsR, EventR, event-val, counts-vals, event-vals, CountsFit, EventFits, event-tell, counts-typed, event-typed, have-counts, have-event, write-out-counts}
 use Rattle.journal.proofs.counts.Counts.after as after
 use Rattle.journal.proofs.counts.Counts.after.Symbol as after-def
@@ -78,7 +78,7 @@ module _ {M : Type 1} (𝓤 : URA M) (H : Heap 𝓤) (A : Atoms 𝓤) (W : Given
   abbrev to-after : After 𝓤 H A at-mem run .Ghost
   to-after = ((tt, tt, tt, (h, (e, tt)), (counts-vals h, (event-vals e, tt))), tt)
 
-  goes : CountsFit h → Countable e h → ent 𝓤 (emp 𝓤) (After 𝓤 H A at-mem run .pre to-after)
+  goes : CountsFit h → HasRoomFor e h → ent 𝓤 (emp 𝓤) (After 𝓤 H A at-mem run .pre to-after)
   goes fit ok =
       qed W [] ∵ says ! ok $ nothing ! $ frame ! $ nothing ! $ have-event ! e e-fits $ fjoin ! $ have-counts ! h fit $ fjoin ! $ done !
 
@@ -104,7 +104,7 @@ module _ {M : Type 1} (𝓤 : URA M) (H : Heap 𝓤) (A : Atoms 𝓤) (W : Given
       feqI ! (List Val) (vunit ∷ []) (vunit ∷ []) refl $ move ! (1 ∷ 0 ∷ []) $ done !
 
   module _ (C : Calls 𝓤 H) (Λ : Loops 𝓤 H) (fm : FmC 𝓤 H (W .laws) C) (known : Triple 𝓤 (C #after) (After 𝓤 H A at-mem run)) where
-    walk : Countable e h
+    walk : HasRoomFor e h
         → ent 𝓤 (onEntry 𝓤 H A log.signature (κ, tt) (q, tt) x at) (WpFn 𝓤 H C Λ code.function (vptr b o ∷ event-val e ∷ []) Post)
     walk ok =
         -- what the event owns is let go: [obs; the borrow; the token]
@@ -140,7 +140,7 @@ module _ {M : Type 1} (𝓤 : URA M) (H : Heap 𝓤) (A : Atoms 𝓤) (W : Given
   log-walks C Λ fm known =
       walked 𝓤 H A log.ended stayed (log.clauses 𝓤 H A at-mem run) (WpFn 𝓤 H C Λ code.function)
       (λ κs. (ptr-vals, (event-vals, tt))) (λ κs. (mut-tells (named 0) (κs .0) CountsR, (event-tell, tt)))
-      (λ κs qs bounds a g are. needs 𝓤 (Countable (a .1 .0) (a .0 .now)) _
+      (λ κs qs bounds a g are. needs 𝓤 (HasRoomFor (a .1 .0) (a .0 .now)) _
       (walk 𝓤 H A W at-mem run (κs .0) (qs .0) (a .0 .ptr .0) (a .0 .ptr .1) (a .0 .name) (a .0 .now) (a .1 .0) (are .1 .0) C Λ fm known))
 
 log-meets : {M : Type 1} (𝓤 : URA M) (H : Heap 𝓤) (A : Atoms 𝓤) (W : Given 𝓤 H A) (at-mem : Memory → SProp 𝓤) (run : Routine → Fun 𝓤) (𝓣 : Tables 𝓤 H)

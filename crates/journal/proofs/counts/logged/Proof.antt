@@ -39,7 +39,7 @@ use denote.Triple.Walked.{says, needs, Stays, stay-none, walkOf, goes-none, Walk
 use denote.Exit.{yes}
 use Rattle.journal.specs.declared.counts.Counts.{Counts}
 use Rattle.journal.specs.declared.Event.{Event}
-use Rattle.journal.specs.Running.{countsAfter, Countable}
+use Rattle.journal.specs.Running.{countsAfter, HasRoomFor}
 use Rattle.journal.proofs.Lent.{CountsR, EventR, counts-val, event-val, counts-vals, event-vals, CountsFit, EventFits, counts-tell, event-tell, counts-typed, event-typed, have-counts, have-event, counts-in, counts-out}
 use Rattle.journal.proofs.counts.Counts.Laws as Counts′
 use Rattle.journal.proofs.counts.log as log
@@ -94,7 +94,7 @@ module _ {M : Type 1} (𝓤 : URA M) (H : Heap 𝓤) (A : Atoms 𝓤) (W : Given
     abbrev to-log : Log 𝓤 H A at-mem run .Ghost
     to-log = (((α ∷ [], tt), (fullShare, tt), tt, (ref, (e, tt)), (vptr l 0 ∷ [], (event-vals e, tt))), tt)
 
-    goes : Countable e h → ent 𝓤 (⋆ 𝓤 H A (‵ (flft (α ∷ []) fullShare) ∷ ‵ Lent ∷ [])) (Log 𝓤 H A at-mem run .pre to-log)
+    goes : HasRoomFor e h → ent 𝓤 (⋆ 𝓤 H A (‵ (flft (α ∷ []) fullShare) ∷ ‵ Lent ∷ [])) (Log 𝓤 H A at-mem run .pre to-log)
     goes ok =
         qed W (‵ (flft (α ∷ []) fullShare) ∷ ‵ Lent ∷ []) ∵ says ! ok $ nothing ! $ move ! (1 ∷ 0 ∷ []) $ join ! $ frame ! $
         nothing ! $ have-event ! e e-fits $ fjoin ! $ move ! (1 ∷ 0 ∷ []) $ fjoin ! $ done !
@@ -115,7 +115,7 @@ module _ {M : Type 1} (𝓤 : URA M) (H : Heap 𝓤) (A : Atoms 𝓤) (W : Given
         move ! (2 ∷ []) $ split ! $ move ! (1 ∷ []) $ feqL ! (λ none. at-once ! $ check ! (ap only none) $ split ! $ keep ! (0 ∷ 2 ∷ []) $ done !))))
 
   module _ (C : Calls 𝓤 H) (Λ : Loops 𝓤 H) (fm : FmC 𝓤 H (W .laws) C) (known : Triple 𝓤 (C #log) (Log 𝓤 H A at-mem run)) where
-    walk : Countable e h
+    walk : HasRoomFor e h
         → ent 𝓤 (onEntry 𝓤 H A logged.signature tt tt x at) (WpFn 𝓤 H C Λ code.function (counts-val h ∷ event-val e ∷ []) Post)
     walk ok =
         -- what the parameters own is let go
@@ -153,7 +153,7 @@ module _ {M : Type 1} (𝓤 : URA M) (H : Heap 𝓤) (A : Atoms 𝓤) (W : Given
   logged-walks C Λ fm known =
       walked 𝓤 H A logged.ended stayed (logged.clauses 𝓤 H A at-mem run) (WpFn 𝓤 H C Λ code.function)
       (λ κs. (counts-vals, (event-vals, tt))) (λ κs. (counts-tell, (event-tell, tt)))
-      (λ κs qs bounds a g are. needs 𝓤 (Countable (a .1 .0) (a .0)) _
+      (λ κs qs bounds a g are. needs 𝓤 (HasRoomFor (a .1 .0) (a .0)) _
       (walk 𝓤 H A W at-mem run (a .0) (a .1 .0) (are .0) (are .1 .0) C Λ fm known))
 
 logged-meets : {M : Type 1} (𝓤 : URA M) (H : Heap 𝓤) (A : Atoms 𝓤) (W : Given 𝓤 H A) (at-mem : Memory → SProp 𝓤) (run : Routine → Fun 𝓤) (𝓣 : Tables 𝓤 H)

@@ -20,8 +20,8 @@ rows-of-requires c κs =
     let start = c .before .before .before .before .before .before .before .before .before .before .before in
     shape-fits _ _ _ _ (start .pre .0) (start .pre .1)
 
-read-short-requires : tie.Need-read-short-requires
-read-short-requires c κs = search needs
+read-number-requires : tie.Need-read-number-requires
+read-number-requires c κs = search needs
 
 enum-known-at : tie.Need-enum-known-at
 enum-known-at c = search needs
@@ -41,7 +41,7 @@ returns c =
     let at-read = c .before .before in
     let start = at-read .before .before .before .before .before .before .before .before .before .before .before .before .before .before in
     let passed = journal-passed _ _ _ (start .pre .0) .numbers in
-    absurd (journal-leads _ passed (sym (at-read .read-short .ensures) ∙ c .enum-told .given .1))
+    absurd (journal-leads _ passed (sym (at-read .read-number .ensures) ∙ c .enum-told .given .1))
 
 put-events-requires : tie.Need-put-events-requires
 put-events-requires c κs =
@@ -51,7 +51,7 @@ put-events-requires c κs =
     let at-received = at-rows .before .before .before in
     let at-sent = at-received .before .before .before .before in
     let start = at-sent .before .before .before .before .before in
-    to-fill _ _ _ _ (start .pre .0) (start .pre .1) _ _ (sym (at-read .read-short .ensures) ∙ at-number .at .given .1) _
+    to-fill _ _ _ _ (start .pre .0) (start .pre .1) _ _ (sym (at-read .read-number .ensures) ∙ at-number .at .given .1) _
     (at-rows .rows-of .ensures .1) _ _ (at-sent .clear .ensures) (at-received .clear2 .ensures)
 
 same-length-3 : tie.Need-same-length-3
@@ -70,7 +70,7 @@ fill-spec =
     clear-requires
     clear-requires-2
     rows-of-requires
-    read-short-requires
+    read-number-requires
     enum-known-at
     enum-told
     same-length

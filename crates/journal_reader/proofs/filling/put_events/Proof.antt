@@ -1,5 +1,5 @@
 -- `put_events` meets its contract. The invariant: after the events so far the rows of the checkpoints made stand at their places.
-use mathlib.Core.Path.{sym, subst, _∙_}
+use mathlib.Core.Path.{sym, _∙_}
 use mathlib.Core.List.{[]}
 use mathlib.Core.Logic.{⊎-elim}
 use Prim.Native.Nat.{_+_, _-_, _<_}
@@ -8,13 +8,11 @@ use borrow.Author.Needs.{needs}
 use lib.ListN.{length, getD}
 use Rattle.book.specs.Bounds.{mostCheckpoints}
 use Rattle.journal.specs.declared.counts.Counts.{Counts}
-use Rattle.journal.specs.declared.EventRead.{EventRead}
 use Rattle.journal.specs.Calls.{leadingN, eventsLogged}
-use Rattle.journal.specs.Parts.{EventFound}
 use Rattle.journal_reader.proofs.FillTurns.{
   Filling,
   Turn,
-  event-there,
+  named-there,
   process-some,
   process-few,
   counts-room,
@@ -44,52 +42,30 @@ none-requires c κs = search needs
 loop-holds : tie.Need-loop-holds Inv-loop μ-loop
 loop-holds c = begun (c .before .before .before .before .pre) (c .none .result) (c .none .ensures)
 
-read-event-requires : tie.Need-read-event-requires Inv-loop μ-loop
-read-event-requires c κs = search needs
-
-enum-known-event : tie.Need-enum-known-event Inv-loop μ-loop
-enum-known-event c = search needs
-
-enum-told : tie.Need-enum-told Inv-loop μ-loop
-enum-told c = search needs
-
--- an accepted journal has an event at each place before its end
-never : (c : tie.After-enum-told Inv-loop μ-loop) → ⊥
-never c =
-    let l = c .before .before .before .before in
-    let a = l .before .before .before .before .before .args in
-    event-there (l .loop .inv) (c .before .before .before .loop-test .taken)
-    (subst (λ (r : EventRead). EventFound (a .s .now) (l .loop .next) r) (c .enum-told .given .1) (c .before .before .read-event .ensures))
-
-same-length : tie.Need-same-length Inv-loop μ-loop
-same-length c = absurd (never c)
-
-same-length-2 : tie.Need-same-length-2 Inv-loop μ-loop
-same-length-2 c = absurd (never c)
-
-returns : tie.Need-returns Inv-loop μ-loop
-returns c = absurd (never c)
+accepted-event-requires : tie.Need-accepted-event-requires Inv-loop μ-loop
+accepted-event-requires c κs =
+    let l = c .before in
+    named-there (known-first (l .before .before .before .before .before .pre) .accepted) (l .loop .inv) (c .loop-test .taken)
 
 process-of-requires : tie.Need-process-of-requires Inv-loop μ-loop
 process-of-requires c κs = search needs
 
 -- what is known of the event, once its process is found
 turn : (c : tie.After-struct-known Inv-loop μ-loop) →
-    let found = c .before .before .before .event .given .0 in
-    let l = c .before .before .before .before .before .before .before in
+    let found = c .before .before .accepted-event .result in
+    let l = c .before .before .before .before in
     let a = l .before .before .before .before .before .args in
     Turn (leadingN (a .s .now)) (eventsLogged (a .s .now)) (a .s .now) (a .t3) (l .loop .sent) (l .loop .received) (l .loop .all) (l .loop .next)
-    (found .0) (found .1 .0) (c .before .process-of .result .0)
+    (found .event) (found .next) (c .before .process-of .result .0)
 turn c =
-    let at-event = c .before .before .before in
-    let l = at-event .before .before .before .before in
+    let at-event = c .before .before in
+    let l = at-event .before .before in
     let start = l .before .before .before .before .before in
     record {
       known = known-first (start .pre);
       inv = l .loop .inv;
-      left = at-event .before .before .before .loop-test .taken;
-      stands = subst (λ (r : EventRead). EventFound (start .args .s .now) (l .loop .next) r) (at-event .event .given .1)
-          (at-event .before .before .read-event .ensures);
+      left = at-event .before .loop-test .taken;
+      stands = at-event .accepted-event .ensures;
       named = c .before .process-of .ensures;
     }
 
@@ -113,7 +89,7 @@ array-read-put-rows c = process-few (turn (c .before .before .before .before .be
 
 -- the row of a checkpoint is one of the table's
 inside : (c : tie.After-struct-known2 Inv-loop μ-loop) → let t = c .before .before .before .before .before .before in
-    let l = t .before .before .before .before .before .before .before in
+    let l = t .before .before .before .before in
     let j = t .before .process-of .result .0 - 1 in
     getD (l .before .before .before .before .before .args .t3) j 0 + getD (l .loop .all) j past .checkpoints < mostCheckpoints
 inside c =
@@ -130,8 +106,8 @@ put-rows-requires c κs =
       record { within = inside c; long = inv .received-rows .long },
     )
 
-logged-requires : tie.Need-logged-requires Inv-loop μ-loop
-logged-requires c κs = counts-room (turn (c .before .before .before)) _
+after-event-requires : tie.Need-after-event-requires Inv-loop μ-loop
+after-event-requires c κs own = counts-room (turn (c .before .before .before)) _
 
 mul-all : tie.Need-mul-all Inv-loop μ-loop
 mul-all c = omega (arith, process-few (turn (c .before .before .before .before)))
@@ -148,21 +124,21 @@ loop-again c =
     let t = turn (at-test .before .before) in
     ⊎-elim
     (λ w.
-    filling-more t past (sym (at-test .is-checkpoint .ensures) ∙ w .0 .taken) _ (c .logged .ensures) _ _ (w .9 ∙ w .4 .ensures .0)
+    filling-more t past (sym (at-test .is-checkpoint .ensures) ∙ w .0 .taken) _ (c .after-event .ensures) _ _ (w .9 ∙ w .4 .ensures .0)
     (w .10 ∙ w .4 .ensures .1))
-    (λ w. filling-on t past _ (c .logged .ensures) (sym (at-test .is-checkpoint .ensures) ∙ w .0 .left) _ _ (w .1) (w .2))
+    (λ w. filling-on t past _ (c .after-event .ensures) (sym (at-test .is-checkpoint .ensures) ∙ w .0 .left) _ _ (w .1) (w .2))
     (c .before .if1 .came)
 
-same-length-3 : tie.Need-same-length-3 Inv-loop μ-loop
-same-length-3 c =
+same-length : tie.Need-same-length Inv-loop μ-loop
+same-length c =
     let l = c .before in l .loop .inv .sent-rows .long ∙ sym (l .before .before .before .before .before .pre .sent-clear .long)
 
-same-length-4 : tie.Need-same-length-4 Inv-loop μ-loop
-same-length-4 c =
+same-length-2 : tie.Need-same-length-2 Inv-loop μ-loop
+same-length-2 c =
     let l = c .before in l .loop .inv .received-rows .long ∙ sym (l .before .before .before .before .before .pre .received-clear .long)
 
-returns-2 : tie.Need-returns-2 Inv-loop μ-loop
-returns-2 c =
+returns : tie.Need-returns Inv-loop μ-loop
+returns c =
     let l = c .before in
     let known = known-first (l .before .before .before .before .before .pre) in
     (sent-filled (known .accepted) (l .loop .inv) (c .loop-test .left), received-filled (known .accepted) (l .loop .inv) (c .loop-test .left))
@@ -175,12 +151,7 @@ put-events-spec =
     μ-loop
     none-requires
     loop-holds
-    read-event-requires
-    enum-known-event
-    enum-told
-    same-length
-    same-length-2
-    returns
+    accepted-event-requires
     process-of-requires
     sub-j
     mul-counts
@@ -190,11 +161,11 @@ put-events-spec =
     array-read-put-rows
     add-put-rows
     put-rows-requires
-    logged-requires
+    after-event-requires
     mul-all
     array-set-from-all
     loop-less
     loop-again
-    same-length-3
-    same-length-4
-    returns-2)
+    same-length
+    same-length-2
+    returns)

@@ -28,6 +28,9 @@ mul-table c = omega arith
 array-read-table : tie.Need-array-read-table Inv-loop μ-loop
 array-read-table c = omega arith
 
+cast-table : tie.Need-cast-table Inv-loop μ-loop
+cast-table c = search needs
+
 mul-table-2 : tie.Need-mul-table-2 Inv-loop μ-loop
 mul-table-2 c = omega arith
 
@@ -71,6 +74,7 @@ put-row-spec =
     loop-holds
     mul-table
     array-read-table
+    cast-table
     mul-table-2
     add-table
     mul-table-3

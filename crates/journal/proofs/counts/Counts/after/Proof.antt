@@ -1,25 +1,25 @@
--- `Counts::after` meets its contract. An event changes one count, and `Countable` says that the count is there and has room for one more.
+-- `Counts::after` meets its contract. An event changes one count, and `HasRoomFor` says that the count is there and has room for one more.
 use mathlib.Core.Path.{_≡_, sym, ap, subst}
 use native.Mathlib.Omega.{arith}
 use borrow.Author.Needs.{needs}
 use Rattle.journal.specs.declared.counts.Counts.{Counts}
 use Rattle.journal.specs.declared.Event.{Event}
-use Rattle.journal.specs.Running.{countsAfter, Countable, Raisable}
+use Rattle.journal.specs.Running.{countsAfter, HasRoomFor, HasRoomAt}
 use Rattle.journal.proofs.counts.Counts.after.Statement.{statement}
 use Rattle.journal.proofs.counts.Counts.after.Tie as tie
 use Rattle.journal.proofs.counts.Counts.after.Reads as reads
 use Rattle.journal.proofs.counts.Counts.after.Lts as lts
 
 -- what the `requires` says of the event that an arm has
-known : (counts : Counts) (e e′ : Event) → Countable e counts → e ≡ e′ → Countable e′ counts
-known counts e e′ ok is = subst (λ (x : Event). Countable x counts) is ok
+known : (counts : Counts) (e e′ : Event) → HasRoomFor e counts → e ≡ e′ → HasRoomFor e′ counts
+known counts e e′ ok is = subst (λ (x : Event). HasRoomFor x counts) is ok
 
 -- a message sent
-sent : (c : lts.After-event reads.Pre reads.Post) → Raisable (c .event .given .0 .1 .0 .0) (c .before .before .args .self .sent)
+sent : (c : lts.After-event reads.Pre reads.Post) → HasRoomAt (c .event .given .0 .1 .0 .0) (c .before .before .args .self .sent)
 sent c = known (c .before .before .args .self) _ _ (c .before .before .pre) (c .event .given .1)
 
 -- a message received
-received : (c : lts.After-event2 reads.Pre reads.Post) → Raisable (c .event2 .given .0 .1 .0 .0) (c .before .before .args .self .received)
+received : (c : lts.After-event2 reads.Pre reads.Post) → HasRoomAt (c .event2 .given .0 .1 .0 .0) (c .before .before .args .self .received)
 received c = known (c .before .before .args .self) _ _ (c .before .before .pre) (c .event2 .given .1)
 
 enum-known-event : tie.Need-enum-known-event

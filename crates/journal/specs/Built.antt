@@ -9,8 +9,7 @@ use Rattle.line_theory.specs.Sets.{View}
 use Rattle.shown.specs.Shown.{bookShown}
 use Rattle.book.specs.Layout.{Book}
 use Rattle.journal.specs.declared.Event.{Event}
-use Rattle.journal.specs.Counting.{isCheckpoint, sendings, receipts}
-use Rattle.journal.specs.Questions.{checkpointCount}
+use Rattle.journal.specs.Counting.{isCheckpoint, sendings, receipts, checkpointCount}
 
 -- the events up to process j's k-th checkpoint event, which is itself no sending and no receipt; none up to a 0-th
 unfoldable pub upToCheckpoint : ℕ → ℕ → List Event → List Event
@@ -18,8 +17,8 @@ upToCheckpoint j k [] = []
 upToCheckpoint j k (e ∷ es) = pick (eqb k 0) [] (e ∷ upToCheckpoint j (k - pick (isCheckpoint j e) 1 0) es)
 
 -- the counters of each checkpoint, by counting; the view's processes and partners count from 0, its checkpoints from 1
-abbrev pub viewLogged : ℕ → List Event → View
-viewLogged n es =
+abbrev pub viewBuilt : ℕ → List Event → View
+viewBuilt n es =
     record {
       n = n;
       count = λ j. checkpointCount (suc j) es;
@@ -28,5 +27,5 @@ viewLogged n es =
     }
 
 -- the book built
-abbrev pub bookLogged : ℕ → List Event → Book
-bookLogged n es = bookShown (viewLogged n es)
+abbrev pub bookBuilt : ℕ → List Event → Book
+bookBuilt n es = bookShown (viewBuilt n es)
