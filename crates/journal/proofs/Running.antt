@@ -2,12 +2,17 @@
 use mathlib.Core.Path.{_≡_, refl, sym, ap, _∙_}
 use mathlib.Core.Bool.{Bool, true, false}
 use mathlib.Core.List.{List, [], _∷_, _++_}
-use Prim.Native.Nat.{ℕ, suc, _+_, _-_, _≤_}
+use Prim.Native.Nat.{ℕ, suc, _+_, _-_, _≤_, _<_}
+use native.Mathlib.Nat.{add-zero}
+use native.Mathlib.Decide.{ℕ-discrete}
 use native.Mathlib.Omega.{arith}
 use borrow.Author.Tests.{eq-eqb, ne-eqb}
-use lib.ListN.{getD}
+use lib.ListN.{length, getD, set, length-set}
+use lib.Seq.{getD-set-same, getD-set-other}
+use lib.Dec.{eqb}
+use Rattle.lists.specs.Pick.{pick}
 use Rattle.lists.specs.Over.{tab}
-use Rattle.lists.proofs.Over.{getD-tab, tab-same, tab-stored}
+use Rattle.lists.proofs.Over.{getD-tab, tab-is, tab-same, tab-stored}
 use Rattle.book.specs.Bounds.{mostProcesses}
 use Rattle.journal.specs.declared.Event.{Event}
 use Rattle.journal.specs.declared.Event.the-variants.{Sent, Received, Checkpointed}
@@ -45,6 +50,21 @@ module _ (j : ℕ) (e : Event) (c : Counts) where
   next-other other = rw (ne-eqb (processOf e) j other)
 
 -- ---- sixteen partners
+
+-- one added at a partner's place, which counts from 0, and nothing at the others
+pub one-added : (l : List ℕ) (p : ℕ) → length l ≡ mostProcesses → p < mostProcesses
+    → tab mostProcesses (λ i. getD l i 0 + pick (eqb i p) 1 0) ≡ oneMore (p + 1) l
+one-added l p long h =
+    let back : p ≡ p + 1 - 1 = omega arith in
+    sym (tab-is 0 mostProcesses (λ i. getD l i 0 + pick (eqb i p) 1 0) (set l p (getD l p 0 + 1)) (length-set l p _ ∙ long) at-each)
+    ∙ ap (λ (k : ℕ). set l k (getD l k 0 + 1)) back
+  where
+    at-each : (i : ℕ) → i < mostProcesses → getD (set l p (getD l p 0 + 1)) i 0 ≡ getD l i 0 + pick (eqb i p) 1 0
+    at-each i m =
+        elim (ℕ-discrete i p) [
+          | yes e ↦ rw (e, eq-eqb p p refl) (getD-set-same l p (getD l p 0 + 1) 0 (omega (arith, long)))
+          | no ne ↦ rw (ne-eqb i p ne) (getD-set-other l p i (getD l p 0 + 1) 0 ne ∙ sym (add-zero (getD l i 0)))
+        ]
 
 -- one event more for a partner, and for no other
 raised : (such : ℕ → Event → Bool) (es : List Event) (e : Event) (p : ℕ) → 1 ≤ p → p ≤ mostProcesses → such p e ≡ true

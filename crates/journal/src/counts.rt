@@ -2,7 +2,8 @@
 use crate::Event;
 use book::Process;
 ghost use mathlib.Core.Path.{_≡_};
-ghost use Rattle.journal.specs.Running.{noCounts, countsAfter, countsNext, HasRoomFor, HasRoomOf};
+ghost use Prim.Native.Nat.{_+_};
+ghost use Rattle.journal.specs.Running.{noCounts, oneMore, countsAfter, countsNext, HasRoomAt, HasRoomFor, HasRoomOf};
 
 // What one process has sent to each partner and received from each so far, and how many checkpoints it has. Sixteen bits are enough,
 // since no journal has more bytes than they count, and they are what is copied for each event.
@@ -10,6 +11,26 @@ pub struct Counts {
     pub sent: [u16; 16],
     pub received: [u16; 16],
     pub checkpoints: usize,
+}
+
+// One more at a partner's place, which counts from 0. All sixteen are added to, most of them nothing, which takes fewer steps than to store one and then
+// copy them all.
+fn one_more(counts: [u16; 16], p: u16) -> [u16; 16]
+    requires { ⌜ HasRoomAt (p + 1) counts ⌝ }
+    ensures { λ r. ⌜ r ≡ oneMore (p + 1) counts ⌝ }
+{
+    let mut next = counts;
+    let mut q: u16 = 0;
+    while q < 16 {
+        let mut more = 0;
+        if q == p {
+            more = 1;
+        }
+        let i = q as usize;
+        next[i] = counts[i] + more;
+        q += 1;
+    }
+    next
 }
 
 impl Counts {
@@ -32,12 +53,14 @@ impl Counts {
         let mut next = self;
         match event {
             Event::Sent(_, partner) => {
-                let p = partner.0 - 1;
-                next.sent[p] += 1;
+                let counts = next.sent;
+                let raised = one_more(counts, (partner.0 - 1) as u16);
+                next.sent = raised;
             }
             Event::Received(_, partner) => {
-                let p = partner.0 - 1;
-                next.received[p] += 1;
+                let counts = next.received;
+                let raised = one_more(counts, (partner.0 - 1) as u16);
+                next.received = raised;
             }
             Event::Checkpointed(_) => {
                 next.checkpoints += 1;
