@@ -4,6 +4,7 @@ pub mod Layout
 pub mod Tables
 pub mod Lent
 pub mod View
+pub mod Starts
 pub mod InTurn
 pub mod Questions
 pub mod Along

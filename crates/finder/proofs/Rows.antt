@@ -12,6 +12,7 @@ use Rattle.book.specs.declared.Checkpoint.{Checkpoint}
 use Rattle.book.specs.declared.TableRows.{TableRows}
 use Rattle.book.specs.Accepted.{AcceptedRows}
 use Rattle.book.specs.View.{firstRow, counterAt}
+use Rattle.book.specs.Starts.{RowStart}
 use Rattle.book.proofs.Sums.{row-within}
 use Rattle.book.proofs.Starts.{placed-first}
 use Rattle.lists.specs.Over.{allTo}
@@ -40,7 +41,7 @@ module _ {rows : TableRows} {c : ℕ → ℕ} (set : Named rows c) (j : ℕ) (th
   pub row-small : firstRow (rows .shape .counts) j + (c j - 1) < 256
   row-small = row-within (rows .shape .counts) j (c j) 256 (set .placed .inside) (set .some j there) (set .among j there)
 
-  pub first-at : length (rows .shape .counts) ≡ 16 → getD (rows .first) j 0 ≡ firstRow (rows .shape .counts) j
+  pub first-at : length (rows .shape .counts) ≡ 16 → RowStart (rows .shape .counts) j (getD (rows .first) j 0)
   first-at long = placed-first (set .placed) j (omega (arith, long, set .most))
 
 -- the row of a set that is given by its rows

@@ -10,7 +10,7 @@ use Rattle.book.specs.declared.Shape.{Shape}
 use Rattle.book.specs.Bounds.{mostProcesses}
 use Rattle.book.specs.Tables.{padded, shapeOf}
 use Rattle.book.specs.View.{sum, firstRows}
-use Rattle.book.proofs.Starts.{getD-firstRows}
+use Rattle.book.proofs.Starts.{starts-are-sums}
 use Rattle.book.proofs.Sums.{sum-of}
 use Rattle.line_theory.specs.Sets.{View}
 use Rattle.shown.specs.Shown.{bookShown}
@@ -31,7 +31,7 @@ module _ (n : ℕ) (count : ℕ → ℕ) (few : n ≤ mostProcesses) where
 
   row-starts : (j : ℕ) → j < n → getD (firstRows counts) j 0 ≡ sumTo j count
   row-starts j h =
-      getD-firstRows counts j (omega (arith, padded-long mostProcesses n count few))
+      starts-are-sums counts j (omega (arith, padded-long mostProcesses n count few))
       ∙ sym (sum-of counts j)
       ∙ sum-ext j (λ i. getD counts i 0) count (λ i m. padded-at mostProcesses n count i (omega arith))
 

@@ -11,9 +11,9 @@ use Rattle.book.specs.declared.Checkpoint.{Checkpoint}
 use Rattle.book.specs.declared.Count.{Count}
 use Rattle.book.specs.declared.TableRows.{TableRows}
 use Rattle.book.specs.View.{count, firstRow, counterAt}
+use Rattle.book.specs.Starts.{RowStart}
 use Rattle.lists.proofs.Stores.{sets-append}
-use Rattle.book.proofs.Fits.{first-more}
-use Rattle.book.proofs.Starts.{placed-first}
+use Rattle.book.proofs.Starts.{starts-carried, placed-first}
 use Rattle.book.proofs.Sums.{sum-more, sum-take}
 use Rattle.consistency.specs.Set.{chosen}
 use Rattle.consistency.specs.Known.{counters}
@@ -38,10 +38,11 @@ keptEntry first table line off j r p = getD table ((fromRow first line j + (r - 
 abbrev pub keptRows : List ℕ → List ℕ → List Checkpoint → List ℕ → List Count → ℕ → List ℕ
 keptRows first table line kept off j = allRowsTo (λ i. getD kept i 0) (keptEntry first table line off) j
 
--- these rows stand at the start of the table, and `to` is where the next begin
+-- these rows stand at the start of the table, and `to` is the start carried to the next process, of the counts that are kept
 pub record AllMoved (table₀ : List ℕ) (off : List Count) (line : List Checkpoint) (kept : List ℕ) (n : ℕ) (first table : List ℕ) (to j : ℕ) :
     Type 0 where
   pub within : j ≤ n
+  pub start : RowStart kept j to
   pub few : to ≤ 256
   pub behind : j < n → to ≤ getD first j 0
   pub long : length (keptRows first table₀ line kept off j) ≡ to * 16
@@ -51,7 +52,14 @@ pub all-begun : (table : List ℕ) (off : List Count) (line : List Checkpoint) (
     → AllMoved table off line kept n first table 0 0
 unfolding allRowsTo
 all-begun table off line kept n first =
-    record { within = omega arith; few = omega arith; behind = λ h. omega arith; long = refl; present = refl }
+    record {
+      within = omega arith;
+      start = starts-carried kept .begins;
+      few = omega arith;
+      behind = λ h. omega arith;
+      long = refl;
+      present = refl;
+    }
 
 module _ (table₀ : List ℕ) (off : List Count) (line : List Checkpoint) (kept : List ℕ) (n : ℕ) (first table : List ℕ) (to j : ℕ)
     (inv : AllMoved table₀ off line kept n first table to j) where
@@ -91,7 +99,7 @@ module _ (table₀ : List ℕ) (off : List Count) (line : List Checkpoint) (kept
 
 -- where the rows of a process begin
 starts : (rows : TableRows) (line : List Checkpoint) (kept : List ℕ) → length (rows .shape .counts) ≡ 16 → Movable rows line kept → (j : ℕ)
-    → j < rows .shape .n → getD (rows .first) j 0 ≡ firstRow (rows .shape .counts) j
+    → j < rows .shape .n → RowStart (rows .shape .counts) j (getD (rows .first) j 0)
 starts rows line kept sixteen m j h = placed-first (m .placed) j (omega (arith, sixteen, m .most))
 
 -- the rows that are kept of process j lie at or after where they are moved to, and within the table
@@ -117,7 +125,7 @@ module _ (table₀ : List ℕ) (off : List Count) (line : List Checkpoint) (kept
     room-after : j + 1 < rows .shape .n → to + getD kept j 0 ≤ getD (rows .first) (j + 1) 0
     room-after l =
         let next : getD (rows .first) j 0 + count (rows .shape) j ≡ getD (rows .first) (j + 1) 0
-        = first-more (rows .shape .counts) j (starts rows line kept sixteen m j h) ∙ sym (starts rows line kept sixteen m (j + 1) l) in
+        = starts-carried (rows .shape .counts) .next j (getD (rows .first) j 0) (starts rows line kept sixteen m j h) ∙ sym (starts rows line kept sixteen m (j + 1) l) in
         omega (arith, inv .behind h, m .among j h .1)
 
     pub all-more : (own : List Count) → own ≡ row off (j + 1 - 1) → (table′ : List ℕ)
@@ -128,6 +136,7 @@ module _ (table₀ : List ℕ) (off : List Count) (line : List Checkpoint) (kept
         let is-own : own ≡ row off j = made ∙ ap (row off) (from-one j) in
         record {
           within = omega arith;
+          start = starts-carried kept .next j to (inv .start);
           few = omega (arith, all-room .behind, all-room .inside);
           behind = room-after;
           long = rw (add-one j) (more-long table₀ off line kept (rows .shape .n) (rows .first) table to j inv h own is-own);

@@ -5,7 +5,7 @@ use mathlib.Core.List.{List, [], _∷_, _++_, append-nil}
 use Prim.Native.Nat.{ℕ, suc, _+_, _*_, _-_, _≤_, _<_}
 use native.Mathlib.Omega.{arith}
 use borrow.Author.Tests.{eq-eqb, ne-eqb}
-use lib.ListN.{length, take, drop, set, replicate, length-append}
+use lib.ListN.{length, take, drop, set, replicate, length-append, length-replicate}
 use lib.Seq.{set-at, append-snoc}
 use lib.Dec.{eqb}
 use Rattle.varint.specs.declared.Numeral.{Numeral}
@@ -15,6 +15,7 @@ use Rattle.varint.specs.Sequence.{Numbers, numbersAfter}
 use Rattle.varint.proofs.Reading.{read-past}
 use Rattle.varint.proofs.Sequence.{numbers-none, numbers-more}
 use Rattle.book.specs.declared.Shape.{Shape}
+use Rattle.book.specs.Starts.{RowStart}
 use Rattle.book.specs.Bounds.{groups, largest, mark}
 use Rattle.book.specs.Layout.{width, processesIn}
 use Rattle.book.specs.Tables.{padded, countsOf, shapeOf}
@@ -22,6 +23,7 @@ use Rattle.book.specs.InTurn.{_then_, ask}
 use Rattle.book.specs.Questions.{countQuestion, nothingFollows}
 use Rattle.book.specs.Along.{processQuestion, processesQuestion}
 use Rattle.book.proofs.Rows.{length-in}
+use Rattle.book.proofs.Starts.{starts-carried, start-stored}
 use Rattle.book.proofs.Questions.{then-passed, then-refused, then-assoc}
 use Rattle.book.specs.Read.{numbersFrom}
 use Rattle.reader.specs.declared.Counted.{Counted}
@@ -73,10 +75,12 @@ counts-none w vs = refl
 abbrev whole : ℕ → List ℕ → ℕ → ℕ
 whole n s at = processesQuestion mark n n 0 (wholeFrom s at) (numbersFrom s at .found)
 
--- j processes are taken: their counts stand first among the sixteen, and their rows in both tables
+-- j processes are taken: their counts stand first among the sixteen, and their rows in both tables; `sum` is the start carried to
+-- the next
 pub record Met (n : ℕ) (s : List ℕ) (at : ℕ) (sent received counts : List ℕ) (sum next j : ℕ) : Type 0 where
   pub within : j ≤ n
   pub few : sum ≤ 256
+  pub start : RowStart counts j sum
   pub done : List ℕ
   pub passed : length done ≡ j
   pub present : counts ≡ done ++ replicate (16 - j) 0
@@ -93,6 +97,7 @@ met-begun n s at sent received e e′ =
     record {
       within = omega arith;
       few = omega arith;
+      start = starts-carried (replicate 16 0) .begins;
       done = [];
       passed = refl;
       present = refl;
@@ -119,6 +124,9 @@ module _ (n : ℕ) (s : List ℕ) (at : ℕ) (sent received counts : List ℕ) (
         (inv .few)
 
     module _ (r : Counted) (sent′ received′ : List ℕ) (did : ProcessTaken n j sum s next r sent received sent′ received′) where
+      counts-long : j < length counts
+      counts-long = omega (arith, ap length (inv .present) ∙ length-append (inv .done) (replicate (16 - j) 0), inv .passed, length-replicate {A = ℕ} (16 - j) 0)
+
       more : n - j ≡ suc (n - (j + 1))
       more = omega arith
 
@@ -142,6 +150,7 @@ module _ (n : ℕ) (s : List ℕ) (at : ℕ) (sent received counts : List ℕ) (
           record {
             within = omega arith;
             few = did .within z .1;
+            start = start-stored counts j sum c counts-long (inv .start);
             done = inv .done ++ (c ∷ []);
             passed = length-append (inv .done) (c ∷ []) ∙ ap (λ (m : ℕ). m + 1) (inv .passed);
             present = ap (λ (l : List ℕ). set l j c) (inv .present ∙ ap (λ (l : List ℕ). inv .done ++ l) zeros)

@@ -8,12 +8,12 @@ use lib.ListN.{length, take, drop, getD, drop-of-length-le}
 use lib.Seq.{slice, slice-cons, length-take-le}
 use Rattle.book.specs.Layout.{joined}
 use Rattle.book.specs.Tables.{checkpointsOf, processesOf}
-use Rattle.book.specs.View.{firstRow}
+use Rattle.book.specs.Starts.{RowStart}
 use Rattle.book.specs.Check.{rowsQuestion}
 use Rattle.book.specs.InTurn.{_then_}
 use Rattle.book.specs.Along.{processQuestion}
 use Rattle.book.specs.Fits.{BookFits}
-use Rattle.book.proofs.Fits.{first-none, first-more}
+use Rattle.book.proofs.Starts.{starts-carried}
 use Rattle.book.proofs.Rows.{drop-rows, length-checkpointsOf}
 use Rattle.tables.proofs.Answers.{answer-fails, answer-passes}
 
@@ -21,10 +21,10 @@ use Rattle.tables.proofs.Answers.{answer-fails, answer-passes}
 pub record Placed (counts : List ℕ) (n first j : ℕ) : Type 0 where
   pub passed : j ≤ n
   pub fits : n ≤ length counts
-  pub starts : first ≡ firstRow counts j
+  pub starts : RowStart counts j first
 
 pub placed-none : (n : ℕ) (counts table : List ℕ) → BookFits n counts table → length counts ≡ 16 → Placed counts n 0 0
-placed-none n counts table b l = record { passed = omega arith; fits = omega arith; starts = first-none counts }
+placed-none n counts table b l = record { passed = omega arith; fits = omega arith; starts = starts-carried counts .begins }
 
 module _ (counts : List ℕ) (n first j : ℕ) (p : Placed counts n first j) where
   pub counts-end : n ≤ j → slice j n counts ≡ []
@@ -35,7 +35,7 @@ module _ (counts : List ℕ) (n first j : ℕ) (p : Placed counts n first j) whe
     counts-next = rw add-one (slice-cons j n counts 0 h (p .fits))
 
     pub placed-more : Placed counts n (first + getD counts j 0) (j + 1)
-    placed-more = record { passed = omega arith; fits = p .fits; starts = first-more counts j (p .starts) }
+    placed-more = record { passed = omega arith; fits = p .fits; starts = starts-carried counts .next j first (p .starts) }
 
 rows-none : (mark n j : ℕ) (sent received : List ℕ) → rowsQuestion mark n (processesOf n j [] sent received) ≡ 0
 unfolding rowsQuestion processesOf

@@ -20,7 +20,8 @@ use Rattle.book.specs.Check.{rowsQuestion}
 use Rattle.book.specs.Fits.{RowsFit, BookFits}
 use Rattle.book.proofs.Asked.{later-sent, later-received}
 use Rattle.book.proofs.Counters.{good}
-use Rattle.book.proofs.Fits.{rows-fit, first-more}
+use Rattle.book.proofs.Fits.{rows-fit}
+use Rattle.book.proofs.Starts.{starts-carried}
 use Rattle.book.proofs.Rows.{column-within}
 use Rattle.lists.proofs.Tests.{both-and}
 use Rattle.book.specs.Before.{entryBefore}
@@ -97,7 +98,7 @@ module _ (n : ℕ) (counts : List ℕ) (long : length counts ≡ 16) where
       sym (walked-end whole mark n counts sent received (firstRow counts n) n
       (repeated (λ j. Walked whole mark n counts sent received (firstRow counts j) j) n
       (walked-none mark n counts sent received bs br long)
-      (λ j h w. subst (λ f. Walked whole mark n counts sent received f (j + 1)) (first-more counts j refl)
+      (λ j h w. subst (λ f. Walked whole mark n counts sent received f (j + 1)) (starts-carried counts .next j (firstRow counts j) refl)
       (walked-more whole mark n counts sent received (firstRow counts j) j w h _ refl
       (process-passes n j (firstRow counts j) (getD counts j 0) sent received
       (rows-fit bs h refl) (rows-fit br h refl) (s .rows j h) (r .rows j h)))))
@@ -110,7 +111,7 @@ module _ (n : ℕ) (counts : List ℕ) (long : length counts ≡ 16) where
       let whole : Bool = allZero (unusedFrom n 0 (take n counts) table) in
       sym (cleared-end whole n counts table (firstRow counts n) n
       (repeated (λ j. Cleared whole n counts table (firstRow counts j) j) n (cleared-none n counts table b long)
-      (λ j h t. subst (λ f. Cleared whole n counts table f (j + 1)) (first-more counts j refl)
+      (λ j h t. subst (λ f. Cleared whole n counts table f (j + 1)) (starts-carried counts .next j (firstRow counts j) refl)
       (cleared-more whole n counts table (firstRow counts j) j t h _ refl
       (ap not (unused-passes zeros n j (firstRow counts j) (getD counts j 0) table (rows-fit b h refl) (s .rows j h))))))
       (omega arith))

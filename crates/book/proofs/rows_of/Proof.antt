@@ -1,23 +1,21 @@
--- `book::rows_of` meets its contract. The invariant: the first rows so far, and where the next begins.
-use mathlib.Core.Path.{_≡_, refl}
+-- `book::rows_of` meets its contract. The invariant: the first rows so far, and the start carried to the next process.
+use mathlib.Core.Path.{refl}
 use Prim.Native.Nat.{_-_}
 use native.Mathlib.Omega.{arith}
 use borrow.Author.Needs.{needs}
-use Rattle.lists.proofs.Filling.{Filled, filled-none, filled-more}
-use Rattle.book.specs.View.{firstRow}
-use Rattle.book.proofs.Fits.{first-none, first-more}
-use Rattle.book.proofs.Starts.{next-within, starts-found}
+use Rattle.lists.proofs.Filling.{filled-none, filled-more}
+use Rattle.book.proofs.Starts.{starts-carried, StartsFound, next-within, starts-found}
 use Rattle.book.proofs.rows_of.Statement.{statement}
 use Rattle.book.proofs.rows_of.Tie as tie
 
 abbrev Inv-loop : tie.InvT-loop
-Inv-loop shape counts first₀ row₀ j₀ first row j = Filled 0 first₀ 16 (firstRow counts) first j × (row ≡ firstRow counts j)
+Inv-loop shape counts first₀ row₀ j₀ first row j = StartsFound first₀ counts first row j
 
 abbrev μ-loop : tie.MeasureT-loop
 μ-loop shape counts first₀ row₀ j₀ first row j = 16 - j
 
 loop-holds : tie.Need-loop-holds Inv-loop μ-loop
-loop-holds c = (filled-none (omega arith), first-none (c .before .args .shape .counts))
+loop-holds c = record { found = filled-none (omega arith); start = starts-carried (c .before .args .shape .counts) .begins }
 
 mul-first : tie.Need-mul-first Inv-loop μ-loop
 mul-first c = omega arith
@@ -34,7 +32,7 @@ array-read-row c = omega arith
 add-row : tie.Need-add-row Inv-loop μ-loop
 add-row c =
     let l = c .before in
-    omega (arith, next-within (l .before .before .args .shape .counts) (l .loop .j) (l .loop .inv .1) (search needs))
+    omega (arith, next-within (l .before .before .args .shape .counts) (l .loop .j) (l .loop .inv .start) (search needs))
 
 add-j : tie.Need-add-j Inv-loop μ-loop
 add-j c = search needs
@@ -45,10 +43,14 @@ loop-less c = search needs
 loop-again : tie.Need-loop-again Inv-loop μ-loop
 loop-again c =
     let l = c .before in
-    (filled-more (l .loop .inv .0) (omega arith) (l .loop .inv .1), first-more (l .before .before .args .shape .counts) (l .loop .j) (l .loop .inv .1))
+    let so-far = l .loop .inv in
+    record {
+      found = filled-more (so-far .found) (omega arith) (so-far .start);
+      start = starts-carried (l .before .before .args .shape .counts) .next (l .loop .j) (l .loop .row) (so-far .start);
+    }
 
 returns : tie.Need-returns Inv-loop μ-loop
-returns c = (refl, starts-found (c .before .before .before .args .shape .counts) (search needs) refl (c .before .loop .inv .0) (omega arith))
+returns c = (refl, starts-found (c .before .before .before .args .shape .counts) (search needs) refl (c .before .loop .inv) (omega arith))
 
 pub rows-of-spec : {M : Type 1} → statement M
 rows-of-spec =

@@ -5,7 +5,8 @@ use Prim.Native.Nat.{_-_, _≤_, _<_}
 use native.Mathlib.Omega.{arith}
 use borrow.Author.Needs.{needs}
 use lib.ListN.{length, getD}
-use Rattle.book.specs.View.{firstRow, counterFrom}
+use Rattle.book.specs.View.{counterFrom}
+use Rattle.book.specs.Starts.{RowStart}
 use Rattle.book.proofs.Starts.{placed-first, placed-row}
 use Rattle.line_theory.proofs.Tests.{permitted-out}
 use Rattle.lists.proofs.Before.{Before, before-none, before-more, before-all}
@@ -41,7 +42,7 @@ there c =
     omega arith
 
 begins : (c : tie.After-struct-known Inv-loop μ-loop) → let a = c .before .before .before .before .args in
-    getD (a .rows .first) (a .j .0 - 1) 0 ≡ firstRow (a .rows .shape .counts) (a .j .0 - 1)
+    RowStart (a .rows .shape .counts) (a .j .0 - 1) (getD (a .rows .first) (a .j .0 - 1) 0)
 begins c =
     let at = c .before .before .before .before in
     placed-first (at .pre .0 .0 .placed) (at .args .j .0 - 1) (there c)

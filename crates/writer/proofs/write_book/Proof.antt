@@ -1,25 +1,29 @@
 -- `writer::write_book` meets its contract. The invariant: with the processes left written as well, all processes stand
--- behind their number.
+-- behind their number, and the start carried to the next process is its first row.
 use mathlib.Core.Path.{_≡_, refl}
-use Prim.Native.Nat.{_-_, _≤_}
+use mathlib.Core.List.{List}
+use Prim.Native.Nat.{ℕ, _-_, _≤_}
 use native.Mathlib.Omega.{arith}
 use borrow.Author.Needs.{needs}
 use lib.ListN.{length}
 use Rattle.book.specs.declared.Shape.{Shape}
-use Rattle.book.specs.View.{firstRow}
-use Rattle.book.proofs.Fits.{first-none, first-more, rows-fit}
+use Rattle.book.specs.Starts.{RowStart}
+use Rattle.book.proofs.Starts.{starts-carried}
+use Rattle.book.proofs.Fits.{rows-fit}
 use Rattle.writer.specs.Parts.{processesBytes}
 use Rattle.writer.proofs.Parts.{number-first, processes-more, processes-done}
 use Rattle.writer.proofs.Turns.{Put, put-begun, put-room, put-more, put-ended, first-room, second-room, both-put}
 use Rattle.writer.proofs.write_book.Statement.{statement}
 use Rattle.writer.proofs.write_book.Tie as tie
 
+record Written (shape : Shape) (sent received out₀ : List ℕ) (next₀ : ℕ) (out : List ℕ) (next first j : ℕ) : Type 0 where
+  within : j ≤ shape .n
+  start : RowStart (shape .counts) j first
+  put : Put (processesBytes shape 0 0 sent received) out₀ next₀ (processesBytes shape j first sent received) out next
+
 abbrev Inv-loop : tie.InvT-loop
 Inv-loop sent received out₀ n counts next₀ first₀ j₀ out next first j =
-    let shape : Shape = record { n = n; counts = counts } in
-    (j ≤ n)
-    × (first ≡ firstRow counts j)
-    × Put (processesBytes shape 0 0 sent received) out₀ next₀ (processesBytes shape j first sent received) out next
+    Written (record { n = n; counts = counts }) sent received out₀ next₀ out next first j
 
 abbrev μ-loop : tie.MeasureT-loop
 μ-loop sent received out₀ n counts next₀ first₀ j₀ out next first j = n - j
@@ -32,7 +36,7 @@ put-number-requires c κs =
 loop-holds : tie.Need-loop-holds Inv-loop μ-loop
 loop-holds c =
     let s = c .before .before .before .before .before .before .before .before in
-    (omega arith, first-none (s .args .shape .counts), put-begun refl)
+    record { within = omega arith; start = starts-carried (s .args .shape .counts) .begins; put = put-begun refl }
 
 mul-write-process : tie.Need-mul-write-process Inv-loop μ-loop
 mul-write-process c = search needs
@@ -49,7 +53,7 @@ write-process-requires c κs =
     let sixteen : length (s .args .shape .counts) ≡ 16 = search needs in
     let room = second-room (s .args .out .now) 0 (number-first (s .args .shape) (s .pre .0) (s .pre .1 .0)) (omega (arith, s .pre .1 .1)) (p .put-number .ensures) in
     let next = processes-more (s .args .shape) (s .pre .0) (s .pre .1 .0) (l .loop .first) sixteen h in
-    (rows-fit (s .pre .0) h (l .loop .inv .1), (rows-fit (s .pre .1 .0) h (l .loop .inv .1), put-room next room (l .loop .inv .2)))
+    (rows-fit (s .pre .0) h (l .loop .inv .start), (rows-fit (s .pre .1 .0) h (l .loop .inv .start), put-room next room (l .loop .inv .put)))
 
 mul-first : tie.Need-mul-first Inv-loop μ-loop
 mul-first c = search needs
@@ -61,7 +65,7 @@ add-first : tie.Need-add-first Inv-loop μ-loop
 add-first c =
     let l = c .before .before .before .before .before in
     let s = l .before .before .before .before .before .before .before .before .before in
-    let fits = rows-fit (s .pre .0) (c .before .before .before .before .loop-test .taken) (l .loop .inv .1) in
+    let fits = rows-fit (s .pre .0) (c .before .before .before .before .loop-test .taken) (l .loop .inv .start) in
     omega (arith, fits .inside)
 
 add-j : tie.Need-add-j Inv-loop μ-loop
@@ -76,9 +80,13 @@ loop-again c =
     let s = l .before .before .before .before .before .before .before .before .before in
     let h = c .before .before .before .before .loop-test .taken in
     let sixteen : length (s .args .shape .counts) ≡ 16 = search needs in
-    let row = first-more (s .args .shape .counts) (l .loop .j) (l .loop .inv .1) in
+    let so-far = l .loop .inv in
     let next = processes-more (s .args .shape) (s .pre .0) (s .pre .1 .0) (l .loop .first) sixteen h in
-    (omega arith, row, put-more next (c .before .before .write-process .ensures) (l .loop .inv .2))
+    record {
+      within = omega arith;
+      start = starts-carried (s .args .shape .counts) .next (l .loop .j) (l .loop .first) (so-far .start);
+      put = put-more next (c .before .before .write-process .ensures) (so-far .put);
+    }
 
 same-length : tie.Need-same-length Inv-loop μ-loop
 same-length c = search needs
@@ -88,7 +96,7 @@ returns c =
     let l = c .before in
     let p = l .before .before .before in
     let s = p .before .before .before .before .before .before in
-    let done = put-ended (processes-done (s .args .shape) (s .pre .0) (s .pre .1 .0) (l .loop .first) (c .loop-test .left)) (l .loop .inv .2) in
+    let done = put-ended (processes-done (s .args .shape) (s .pre .0) (s .pre .1 .0) (l .loop .first) (c .loop-test .left)) (l .loop .inv .put) in
     let stored = both-put (s .args .out .now) 0 (number-first (s .args .shape) (s .pre .0) (s .pre .1 .0)) (p .put-number .ensures) done in
     (omega (arith, stored .0), stored .1)
 
