@@ -24,7 +24,7 @@ ghost use Rattle.machine.specs.Own.{ownOf};
 ghost use Rattle.machine.specs.Named.{tallyLimit};
 ghost use Rattle.machine.specs.Flags.{someone};
 ghost use Rattle.book.specs.Lent.{lent};
-ghost use Rattle.book.specs.Accepted.{AreAccepted, AcceptedRows, IsProcess};
+ghost use Rattle.book.specs.Accepted.{AcceptedRows, IsProcess};
 ghost use Rattle.initiator.specs.Begin.{wait, withoutWait, beginSearch, beginRestart, begin};
 ghost use Rattle.initiator.specs.Step.{senderOf, awaits};
 ghost use Rattle.initiator.specs.Calls.{beginQuestion, noInitiator, stateBegun, lengthsBegun, bytesBegun, stateQuestion, receiveQuestion, stateAfter, lengthsAfter, bytesAfter};
@@ -173,10 +173,11 @@ impl Initiator {
     }
 
     // Questions 10, 11 and 13 of a state, on accepted tables.
-    fn state_question(self, shape: Shape, sent: &[Counter], received: &[Counter]) -> u32
-        requires { ⌜ AreAccepted (lent shape (now sent) (now received)) ⌝ }
-        ensures { λ r. ⌜ r ≡ stateQuestion (shape .n) (ownOf (lent shape (now (sent .entry)) (now (received .entry))) (self .me .0 - 1)) self ⌝ }
+    fn state_question(self, rows: TableRows, sent: &[Counter], received: &[Counter]) -> u32
+        requires { ⌜ AcceptedRows rows (now sent) (now received) ⌝ }
+        ensures { λ r. ⌜ r ≡ stateQuestion (rows .shape .n) (ownOf (lent (rows .shape) (now (sent .entry)) (now (received .entry))) (self .me .0 - 1)) self ⌝ }
     {
+        let shape = rows.shape;
         let me = self.me;
         if !book::is_named(shape.n, me.0) {
             return 10;
@@ -184,7 +185,6 @@ impl Initiator {
         if !book::is_purpose(self.purpose) {
             return 11;
         }
-        let rows = book::rows_of(shape);
         if !self.fits(rows, sent, received) {
             return 13;
         }
@@ -282,7 +282,8 @@ impl Initiator {
         if question != 0 {
             return self.refused(question);
         }
-        let question = self.state_question(shape, sent, received);
+        let rows = book::rows_of(shape);
+        let question = self.state_question(rows, sent, received);
         if question != 0 {
             return self.refused(question);
         }
@@ -296,7 +297,6 @@ impl Initiator {
         if question != 0 {
             return self.refused(question);
         }
-        let rows = book::rows_of(shape);
         let next = self.step(rows, sent, received, message);
         let outgoing = next.outgoing;
         let done = mail::send(outgoing, out);

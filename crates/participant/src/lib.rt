@@ -8,12 +8,13 @@ use book::Count;
 use book::Counter;
 use book::Process;
 use book::Shape;
+use book::TableRows;
 use mail::Outgoing;
 use message::ReadMessage;
 ghost use mathlib.Core.Path.{_≡_};
 ghost use Prim.Native.Nat.{_-_, _≤_};
 ghost use Rattle.book.specs.Lent.{lent};
-ghost use Rattle.book.specs.Accepted.{AreAccepted};
+ghost use Rattle.book.specs.Accepted.{AcceptedRows};
 ghost use Rattle.book.specs.InTurn.{_then_, ask, answerTo};
 ghost use Rattle.matrix.specs.Entries.{allLower};
 ghost use Rattle.mail.specs.Outgoing.{noLengths};
@@ -146,10 +147,11 @@ impl Participant {
     }
 
     // Questions 10, 11 and 13 of a state, on accepted tables.
-    fn state_question(self, shape: Shape, sent: &[Counter], received: &[Counter]) -> u32
-        requires { ⌜ AreAccepted (lent shape (now sent) (now received)) ⌝ }
-        ensures { λ r. ⌜ r ≡ stateQuestion (shape .n) (ownOf (lent shape (now (sent .entry)) (now (received .entry))) (self .me .0 - 1)) self ⌝ }
+    fn state_question(self, rows: TableRows, sent: &[Counter], received: &[Counter]) -> u32
+        requires { ⌜ AcceptedRows rows (now sent) (now received) ⌝ }
+        ensures { λ r. ⌜ r ≡ stateQuestion (rows .shape .n) (ownOf (lent (rows .shape) (now (sent .entry)) (now (received .entry))) (self .me .0 - 1)) self ⌝ }
     {
+        let shape = rows.shape;
         let me = self.me;
         let initiator = self.initiator;
         if !machine::participant_named(shape.n, me, initiator) {
@@ -158,7 +160,6 @@ impl Participant {
         if !book::is_purpose(self.purpose) {
             return 11;
         }
-        let rows = book::rows_of(shape);
         if !self.fits(rows, sent, received) {
             return 13;
         }
@@ -216,7 +217,8 @@ impl Participant {
         if question != 0 {
             return self.refused(question);
         }
-        let question = self.state_question(shape, sent, received);
+        let rows = book::rows_of(shape);
+        let question = self.state_question(rows, sent, received);
         if question != 0 {
             return self.refused(question);
         }
@@ -227,7 +229,6 @@ impl Participant {
         if question != 0 {
             return self.refused(question);
         }
-        let rows = book::rows_of(shape);
         let message = read.message;
         let next = self.step(rows, sent, received, message);
         let outgoing = next.outgoing;

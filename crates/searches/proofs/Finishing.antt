@@ -5,10 +5,9 @@ use mathlib.Core.List.{List}
 use Prim.Native.Nat.{ℕ, suc, _+_, _-_, _≤_, _<_}
 use native.Mathlib.Omega.{arith}
 use lib.ListN.{length}
-use Rattle.book.specs.declared.Shape.{Shape}
 use Rattle.book.specs.declared.Process.{Process}
 use Rattle.book.specs.Bounds.{mostProcesses}
-use Rattle.book.specs.Lent.{lent, Tables}
+use Rattle.book.specs.Lent.{Tables}
 use Rattle.book.specs.Accepted.{AreAccepted}
 use Rattle.line_theory.specs.OfTables.{viewOf}
 use Rattle.session.specs.declared.Session.{Session}
@@ -26,14 +25,10 @@ use Rattle.searches.proofs.Lowest.{found-some, found-none}
 use Rattle.searches.proofs.Along.{Runs, few-delivered, next-runs, next-passes, next-counts, to-end-more, to-end-done}
 use Rattle.searches.proofs.Theorems.{searchIn, is-search, begun-runs}
 
--- what has started there has accepted tables,
-pub tables-accepted : (tables : Tables) (s : Session) (strands : List ℕ) → Started tables s strands → AreAccepted tables
-tables-accepted tables s strands a = is-search tables (a .initiator) (a .purpose) (a .long) (a .accepted) .accepted
-
--- and has started on the shape among their rows
-pub started-rows : (shape same : Shape) (sent received : List ℕ) (s : Session) (strands : List ℕ) → same ≡ shape
-    → Started (lent shape sent received) s strands → Started (lent same sent received) s strands
-started-rows shape same sent received s strands e a = subst (λ (t : Shape). Started (lent t sent received) s strands) (sym e) a
+-- a search that no question refuses has accepted tables
+pub search-accepted : (tables : Tables) (initiator : Process) (purpose : ℕ) → length (tables .shape .counts) ≡ mostProcesses
+    → searchQuestion tables initiator purpose ≡ 0 → AreAccepted tables
+search-accepted tables initiator purpose long passes = is-search tables initiator purpose long passes .accepted
 
 module _ (tables : Tables) where
   -- where all turns lead from here

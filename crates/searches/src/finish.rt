@@ -3,10 +3,12 @@ use book::Checkpoint;
 use book::Counter;
 use book::Process;
 use book::Shape;
+use book::TableRows;
 use session::Session;
 ghost use mathlib.Core.Path.{_≡_};
 ghost use Prim.Native.Nat.{_-_, _≤_};
 ghost use Rattle.book.specs.Lent.{lent};
+ghost use Rattle.book.specs.Accepted.{AcceptedRows};
 ghost use Rattle.book.specs.View.{count};
 ghost use Rattle.lists.specs.Over.{sumTo};
 ghost use Rattle.line_theory.specs.OfTables.{viewOf};
@@ -35,15 +37,15 @@ fn lowest_waiting(lengths: [usize; 16]) -> Process
 // come to an end.
 pub(crate) fn finish(
     session: Session,
-    shape: Shape,
+    rows: TableRows,
     sent: &[Counter],
     received: &[Counter],
     strands: &mut [u8],
 ) -> Session
-    requires { ⌜ Started (lent shape (now sent) (now received)) session (now strands) ⌝ }
-    ensures { λ r. ⌜ r ≡ toEnd (lent shape (now (sent .entry)) (now (received .entry))) (mostDelivered (viewOf (lent shape (now (sent .entry)) (now (received .entry))))) (record { session = session; strands = now (strands .entry) }) .session ⌝ }
+    requires { ⌜ AcceptedRows rows (now sent) (now received) ⌝ }
+    requires { ⌜ Started (lent (rows .shape) (now sent) (now received)) session (now strands) ⌝ }
+    ensures { λ r. ⌜ r ≡ toEnd (lent (rows .shape) (now (sent .entry)) (now (received .entry))) (mostDelivered (viewOf (lent (rows .shape) (now (sent .entry)) (now (received .entry))))) (record { session = session; strands = now (strands .entry) }) .session ⌝ }
 {
-    let rows = book::rows_of(shape);
     let mut next = session;
     let lengths = next.lengths;
     let mut p = lowest_waiting(lengths);

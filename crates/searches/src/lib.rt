@@ -157,9 +157,10 @@ fn start_and_finish(
     requires { ⌜ searchQuestion (lent shape (now sent) (now received)) initiator purpose ≡ 0 ⌝ }
     ensures { λ r. ⌜ r ≡ searched (lent shape (now (sent .entry)) (now (received .entry))) initiator purpose .session ⌝ }
 {
+    let rows = book::rows_of(shape);
     let mut strands = strands_inside();
-    let begun = turns::take_start(shape, sent, received, initiator, purpose, &mut strands);
-    finish::finish(begun, shape, sent, received, &mut strands)
+    let begun = turns::take_start(rows, sent, received, initiator, purpose, &mut strands);
+    finish::finish(begun, rows, sent, received, &mut strands)
 }
 
 // A search from its start to its end: turns are taken, lowest waiting strand first, until nothing waits; then everybody has

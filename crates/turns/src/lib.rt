@@ -100,18 +100,19 @@ pub fn start(
 
 // A start, without the questions. Inner: asks for a start that no question refuses.
 pub fn take_start(
-    shape: Shape,
+    rows: TableRows,
     sent: &[Counter],
     received: &[Counter],
     initiator: Process,
     purpose: u64,
     strands: &mut [u8],
 ) -> Session
-    requires { ⌜ startQuestion (lent shape (now sent) (now received)) initiator purpose (now strands) ≡ 0 ⌝ }
-    ensures { λ r. ⌜ r ≡ sessionStarted (lent shape (now (sent .entry)) (now (received .entry))) initiator purpose (now (strands .entry)) ⌝ }
-    ensures { λ _. ⌜ now (strands .exit) ≡ strandsStarted (lent shape (now (sent .entry)) (now (received .entry))) initiator purpose (now (strands .entry)) ⌝ }
+    requires { ⌜ AcceptedRows rows (now sent) (now received) ⌝ }
+    requires { ⌜ startQuestion (lent (rows .shape) (now sent) (now received)) initiator purpose (now strands) ≡ 0 ⌝ }
+    ensures { λ r. ⌜ r ≡ sessionStarted (lent (rows .shape) (now (sent .entry)) (now (received .entry))) initiator purpose (now (strands .entry)) ⌝ }
+    ensures { λ _. ⌜ now (strands .exit) ≡ strandsStarted (lent (rows .shape) (now (sent .entry)) (now (received .entry))) initiator purpose (now (strands .entry)) ⌝ }
 {
-    let rows = book::rows_of(shape);
+    let shape = rows.shape;
     let turned = session_steps::begin(rows, sent, received, initiator, purpose);
     post(turned, shape.n, strands)
 }

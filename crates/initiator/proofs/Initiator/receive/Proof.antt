@@ -1,18 +1,19 @@
 -- `receive` meets its contract: at each return the tests that led there say which question fails first.
-use mathlib.Core.Path.{_≡_, refl, sym, _∙_}
+use mathlib.Core.Path.{_≡_, refl, sym, ap, _∙_}
 use mathlib.Core.Bool.{true}
-use Prim.Native.Nat.{ℕ, _≤_}
+use Prim.Native.Nat.{ℕ, _-_, _≤_}
 use native.Mathlib.Omega.{arith}
 use borrow.Author.Needs.{needs}
 use borrow.Author.Tests.{not-true, not-false}
 use lib.ListN.{length}
+use Rattle.book.specs.declared.Shape.{Shape}
 use Rattle.book.specs.Lent.{lent}
 use Rattle.book.specs.Check.{tablesQuestion}
 use Rattle.book.specs.Accepted.{AreAccepted}
 use Rattle.book.proofs.Starts.{rows-accepted}
 use Rattle.line_theory.proofs.Accepted.{accepted-size, accepted-few}
 use Rattle.message.specs.Formed.{messageFormed}
-use Rattle.machine.specs.Own.{Own}
+use Rattle.machine.specs.Own.{Own, ownOf}
 use Rattle.machine.proofs.Answers.{at-first, at-second, at-third, at-room, at-end}
 use Rattle.initiator.specs.declared.InitiatorStep.{InitiatorStep}
 use Rattle.initiator.specs.Fits.{fits}
@@ -68,28 +69,38 @@ accepted c = record {
 
 -- ---- the state
 
+rows-of-requires : tie.Need-rows-of-requires
+rows-of-requires c κs = accepted-few (accepted c)
+
 state-question-requires : tie.Need-state-question-requires
-state-question-requires c κs = accepted c
+state-question-requires c κs = rows-accepted (accepted (c .before)) (c .rows-of .ensures)
+
+state-is : (c : tie.After-state-question) → c .state-question .result ≡ of-state (c .before .before .before .before .before .before .before .before)
+state-is c =
+    let a = c .before .before .before .before .before .before .before .before .args in
+    c .state-question .ensures
+    ∙ ap (λ (t : Shape). stateQuestion (t .n) (ownOf (lent t (a .sent .now) (a .received .now)) (a .self .me .0 - 1)) (a .self))
+    (c .before .rows-of .ensures .0)
 
 refused-requires-2 : tie.Need-refused-requires-2
 refused-requires-2 c κs = search needs
 
 returns-2 : tie.Need-returns-2
 returns-2 c =
-    let at = c .before .before .before .before .before .before .before .before .before in
+    let at = c .before .before .before .before .before .before .before .before .before .before in
     let a = at .args in
     let question = c .before .before .state-question in
     answer-received (lent (a .shape) (a .sent .now) (a .received .now)) (a .self) (a .s .now) (a .out .now) (step at) (c .refused2 .result) (a .out .now) refl
     (at-second (tables at) (of-state at) (of-message at) (a .self) (step at .state) (step at .outgoing) (a .out .now) (question .result) (c .refused2 .result .answer) (c .refused2 .result .state) (c .refused2 .result .lengths) (c .before .if2 .taken)
     (c .refused2 .ensures)
-    (accepted (c .before .before .before) .passed)
-    (question .ensures))
+    (accepted (c .before .before .before .before) .passed)
+    (state-is (c .before .before)))
 
-state-passes : (c : tie.Else2) → of-state (c .before .before .before .before .before .before .before .before) ≡ 0
-state-passes c = sym (c .before .state-question .ensures) ∙ c .if2 .left
+state-passes : (c : tie.Else2) → of-state (c .before .before .before .before .before .before .before .before .before) ≡ 0
+state-passes c = sym (state-is (c .before)) ∙ c .if2 .left
 
-size : (c : tie.Else2) → let a = c .before .before .before .before .before .before .before .before .args in (1 ≤ a .shape .n) × (a .shape .n ≤ 16)
-size c = accepted-size (accepted (c .before .before))
+size : (c : tie.Else2) → let a = c .before .before .before .before .before .before .before .before .before .args in (1 ≤ a .shape .n) × (a .shape .n ≤ 16)
+size c = accepted-size (accepted (c .before .before .before))
 
 -- ---- the message
 
@@ -102,45 +113,45 @@ refused-requires-3 c κs = search needs
 returns-3 : tie.Need-returns-3
 returns-3 c =
     let passed = c .before .before .before .before .before in
-    let at = passed .before .before .before .before .before .before .before .before in
+    let at = passed .before .before .before .before .before .before .before .before .before in
     let a = at .args in
     let read = c .before .before .before .read-message in
     answer-received (lent (a .shape) (a .sent .now) (a .received .now)) (a .self) (a .s .now) (a .out .now) (step at) (c .refused3 .result) (a .out .now) refl
     (at-third (tables at) (of-state at) (of-message at) (a .self) (step at .state) (step at .outgoing) (a .out .now) 14 (c .refused3 .result .answer) (c .refused3 .result .state) (c .refused3 .result .lengths) (λ z. absurd (omega arith))
     (c .refused3 .ensures)
-    (accepted (passed .before .before) .passed)
+    (accepted (passed .before .before .before) .passed)
     (state-passes passed)
     (not-formed (a .shape .n) (a .self) (a .s .now) (sym (read .ensures .0) ∙ not-true (read .result .formed) (c .before .if3 .taken))))
 
-formed : (c : tie.Else3) → let a = c .before .before .before .before .before .before .before .before .before .before .before .before .args in
+formed : (c : tie.Else3) → let a = c .before .before .before .before .before .before .before .before .before .before .before .before .before .args in
     messageFormed (a .shape .n) (a .self .me .0) (a .self .me .0) (a .s .now) ≡ true
 formed c = let read = c .before .before .read-message in sym (read .ensures .0) ∙ not-false (read .result .formed) (c .if3 .left)
 
 -- the sender is a process that there is
 sender : (c : tie.Else3) → let m = c .before .before .read-message .result .message in (1 ≤ m .head .sender .0) × (m .head .sender .0 ≤ 16)
 sender c =
-    let a = c .before .before .before .before .before .before .before .before .before .before .before .before .args in
+    let a = c .before .before .before .before .before .before .before .before .before .before .before .before .before .args in
     let read = c .before .before .read-message in
     let named =
     sender-there (a .shape .n) (a .self .me .0) (a .self .me .0) (a .s .now) (read .result .message) (formed c) (read .ensures .1) in
     (named .0, omega (arith, named, size (c .before .before .before .before)))
 
-fitting : (c : tie.Else2) → let at = c .before .before .before .before .before .before .before .before in fits (own at) (at .args .self) ≡ true
+fitting : (c : tie.Else2) → let at = c .before .before .before .before .before .before .before .before .before in fits (own at) (at .args .self) ≡ true
 fitting c =
-    let at = c .before .before .before .before .before .before .before .before in
+    let at = c .before .before .before .before .before .before .before .before .before in
     state-fits (at .args .shape .n) (own at) (at .args .self) (state-passes c)
 
 awaited-question-requires : tie.Need-awaited-question-requires
 awaited-question-requires c κs =
     let passed = c .before .before .before .before .before in
-    let at = passed .before .before .before .before .before .before .before .before in
+    let at = passed .before .before .before .before .before .before .before .before .before in
     let same = fitting-size (own at) (at .args .self) (fitting passed) in
     (sender (c .before), omega (arith, same, size passed))
 
 asked : (c : tie.After-awaited-question) →
-    c .awaited-question .result ≡ of-message (c .before .before .before .before .before .before .before .before .before .before .before .before .before .before)
+    c .awaited-question .result ≡ of-message (c .before .before .before .before .before .before .before .before .before .before .before .before .before .before .before)
 asked c =
-    let a = c .before .before .before .before .before .before .before .before .before .before .before .before .before .before .args in
+    let a = c .before .before .before .before .before .before .before .before .before .before .before .before .before .before .before .args in
     let read = c .before .before .before .before .read-message in
     is-formed (a .shape .n) (a .self) (a .s .now) (read .result .message) (c .awaited-question .result) (formed (c .before .before)) (read .ensures .1)
     (c .awaited-question .ensures)
@@ -151,37 +162,34 @@ refused-requires-4 c κs = search needs
 returns-4 : tie.Need-returns-4
 returns-4 c =
     let passed = c .before .before .before .before .before .before .before .before in
-    let at = passed .before .before .before .before .before .before .before .before in
+    let at = passed .before .before .before .before .before .before .before .before .before in
     let a = at .args in
     let question = c .before .before .awaited-question in
     answer-received (lent (a .shape) (a .sent .now) (a .received .now)) (a .self) (a .s .now) (a .out .now) (step at) (c .refused4 .result) (a .out .now) refl
     (at-third (tables at) (of-state at) (of-message at) (a .self) (step at .state) (step at .outgoing) (a .out .now) (question .result) (c .refused4 .result .answer) (c .refused4 .result .state) (c .refused4 .result .lengths) (c .before .if4 .taken)
     (c .refused4 .ensures)
-    (accepted (passed .before .before) .passed)
+    (accepted (passed .before .before .before) .passed)
     (state-passes passed)
     (asked (c .before .before)))
 
 -- ---- the room
 
-rows-of-requires : tie.Need-rows-of-requires
-rows-of-requires c κs = accepted-few (accepted (c .before .before .before .before .before .before .before .before .before))
-
 step-requires : tie.Need-step-requires
 step-requires c κs =
-    let passed = c .before .before .before .before .before .before .before .before in
-    let at = passed .before .before .before .before .before .before .before .before in
+    let passed = c .before .before .before .before .before .before .before in
+    let at = passed .before .before .before .before .before .before .before .before .before in
     let a = at .args in
-    let rows = c .rows-of in (
-      (rows-accepted (accepted (passed .before .before)) (rows .ensures), rw (rows .ensures .0) (state-named (a .shape .n) (own at) (a .self) (state-passes passed))),
-      (sender (c .before .before .before .before), fitting-rounds (own at) (a .self) (fitting passed)),
+    let rows = passed .before .before .rows-of in (
+      (rows-accepted (accepted (passed .before .before .before)) (rows .ensures), rw (rows .ensures .0) (state-named (a .shape .n) (own at) (a .self) (state-passes passed))),
+      (sender (c .before .before .before), fitting-rounds (own at) (a .self) (fitting passed)),
     )
 
 is-step : (c : tie.After-step) →
     c .step .result ≡ step (c .before .before .before .before .before .before .before .before .before .before .before .before .before .before .before .before .before)
 is-step c =
     let a = c .before .before .before .before .before .before .before .before .before .before .before .before .before .before .before .before .before .args in
-    let rows = c .before .rows-of in
-    let read = c .before .before .before .before .before .before .before .read-message in
+    let rows = c .before .before .before .before .before .before .before .before .before .before .rows-of in
+    let read = c .before .before .before .before .before .before .read-message in
     step-on (lent (a .shape) (a .sent .now) (a .received .now)) (a .self) (a .s .now) (rows .result) (read .result .message) (c .step .result) (rows .ensures .0)
     (read .ensures .1)
     (c .step .ensures)
@@ -198,15 +206,15 @@ same-length c = search needs
 returns-5 : tie.Need-returns-5
 returns-5 c =
     let stepped = c .before .before .before .before .before .before .before .before in
-    let awaited = stepped .before .before in
+    let awaited = stepped .before in
     let passed = awaited .before .before .before .before .before .before .before in
-    let at = passed .before .before .before .before .before .before .before .before in
+    let at = passed .before .before .before .before .before .before .before .before .before in
     let a = at .args in
     let next = stepped .step .result in
     let sent = c .before .before .before .before .before .send in
     answer-received (lent (a .shape) (a .sent .now) (a .received .now)) (a .self) (a .s .now) (a .out .now) next (c .refused5 .result) (sent .last .1 .0)
     (is-step stepped)
-    (at-room (tables at) (of-state at) (of-message at) (a .self) (next .state) (next .outgoing) (a .out .now) (accepted (passed .before .before) .passed) (state-passes passed)
+    (at-room (tables at) (of-state at) (of-message at) (a .self) (next .state) (next .outgoing) (a .out .now) (accepted (passed .before .before .before) .passed) (state-passes passed)
     (sym (asked (awaited .before)) ∙ awaited .if4 .left)
     (sent .result .question)
     (sent .last .1 .0)
@@ -222,15 +230,15 @@ same-length-2 c = search needs
 returns-6 : tie.Need-returns-6
 returns-6 c =
     let stepped = c .before .before .before .before .before .before .before .before .before in
-    let awaited = stepped .before .before in
+    let awaited = stepped .before in
     let passed = awaited .before .before .before .before .before .before .before in
-    let at = passed .before .before .before .before .before .before .before .before in
+    let at = passed .before .before .before .before .before .before .before .before .before in
     let a = at .args in
     let next = stepped .step .result in
     let sent = c .before .before .before .before .before .before .send in
     answer-received (lent (a .shape) (a .sent .now) (a .received .now)) (a .self) (a .s .now) (a .out .now) next _ (sent .last .1 .0)
     (is-step stepped)
-    (at-end (tables at) (of-state at) (of-message at) (a .self) (next .state) (next .outgoing) (a .out .now) (accepted (passed .before .before) .passed) (state-passes passed)
+    (at-end (tables at) (of-state at) (of-message at) (a .self) (next .state) (next .outgoing) (a .out .now) (accepted (passed .before .before .before) .passed) (state-passes passed)
     (sym (asked (awaited .before)) ∙ awaited .if4 .left)
     (sent .result .question)
     (sent .last .1 .0)
@@ -247,6 +255,7 @@ receive-spec =
     question-requires
     refused-requires
     returns
+    rows-of-requires
     state-question-requires
     refused-requires-2
     returns-2
@@ -256,7 +265,6 @@ receive-spec =
     awaited-question-requires
     refused-requires-4
     returns-4
-    rows-of-requires
     step-requires
     send-requires
     refused-requires-5

@@ -1,15 +1,16 @@
 -- `receive` meets its contract: at each return the tests that led there say which question fails first.
-use mathlib.Core.Path.{_≡_, refl, sym, _∙_}
-use Prim.Native.Nat.{ℕ}
+use mathlib.Core.Path.{_≡_, refl, sym, ap, _∙_}
+use Prim.Native.Nat.{ℕ, _-_}
 use native.Mathlib.Omega.{arith}
 use borrow.Author.Needs.{needs}
 use lib.ListN.{length}
+use Rattle.book.specs.declared.Shape.{Shape}
 use Rattle.book.specs.Lent.{lent}
 use Rattle.book.specs.Check.{tablesQuestion}
 use Rattle.book.specs.Accepted.{AreAccepted}
 use Rattle.book.proofs.Starts.{rows-accepted}
 use Rattle.line_theory.proofs.Accepted.{accepted-size, accepted-few}
-use Rattle.machine.specs.Own.{Own}
+use Rattle.machine.specs.Own.{Own, ownOf}
 use Rattle.machine.proofs.Answers.{at-first, at-second, at-third, at-room, at-end}
 use Rattle.participant.specs.declared.ParticipantStep.{ParticipantStep}
 use Rattle.participant.specs.Calls.{ownOfState, stateQuestion, messageQuestion, stepOn}
@@ -65,15 +66,25 @@ accepted c = record {
 
 -- ---- the state
 
+rows-of-requires : tie.Need-rows-of-requires
+rows-of-requires c κs = accepted-few (accepted c)
+
 state-question-requires : tie.Need-state-question-requires
-state-question-requires c κs = accepted c
+state-question-requires c κs = rows-accepted (accepted (c .before)) (c .rows-of .ensures)
+
+state-is : (c : tie.After-state-question) → c .state-question .result ≡ of-state (c .before .before .before .before .before .before .before .before)
+state-is c =
+    let a = c .before .before .before .before .before .before .before .before .args in
+    c .state-question .ensures
+    ∙ ap (λ (t : Shape). stateQuestion (t .n) (ownOf (lent t (a .sent .now) (a .received .now)) (a .self .me .0 - 1)) (a .self))
+    (c .before .rows-of .ensures .0)
 
 refused-requires-2 : tie.Need-refused-requires-2
 refused-requires-2 c κs = search needs
 
 returns-2 : tie.Need-returns-2
 returns-2 c =
-    let at = c .before .before .before .before .before .before .before .before .before in
+    let at = c .before .before .before .before .before .before .before .before .before .before in
     let a = at .args in
     let question = c .before .before .state-question in
     let r = c .refused2 .result in
@@ -81,25 +92,25 @@ returns-2 c =
     (at-second (tables at) (of-state at) (of-message at) (a .self) (step at .state) (step at .outgoing) (a .out .now) (question .result)
     (r .answer) (r .state) (r .lengths) (c .before .if2 .taken)
     (c .refused2 .ensures)
-    (accepted (c .before .before .before) .passed)
-    (question .ensures))
+    (accepted (c .before .before .before .before) .passed)
+    (state-is (c .before .before)))
 
-state-passes : (c : tie.Else2) → of-state (c .before .before .before .before .before .before .before .before) ≡ 0
-state-passes c = sym (c .before .state-question .ensures) ∙ c .if2 .left
+state-passes : (c : tie.Else2) → of-state (c .before .before .before .before .before .before .before .before .before) ≡ 0
+state-passes c = sym (state-is (c .before)) ∙ c .if2 .left
 
 -- ---- the message
 
 read-message-requires : tie.Need-read-message-requires
 read-message-requires c κs =
-    accepted-size (accepted (c .before .before .before .before)) .1
+    accepted-size (accepted (c .before .before .before .before .before)) .1
 
 message-question-requires : tie.Need-message-question-requires
 message-question-requires c κs = search needs
 
 message-is : (c : tie.After-message-question) →
-    c .message-question .result ≡ of-message (c .before .before .before .before .before .before .before .before .before .before .before .before)
+    c .message-question .result ≡ of-message (c .before .before .before .before .before .before .before .before .before .before .before .before .before)
 message-is c =
-    let a = c .before .before .before .before .before .before .before .before .before .before .before .before .args in
+    let a = c .before .before .before .before .before .before .before .before .before .before .before .before .before .args in
     let read = c .before .read-message in
     c .message-question .ensures ∙ message-asked (a .shape .n) (a .self) (a .s .now) (read .result) (read .ensures .0) (read .ensures .1)
 
@@ -108,7 +119,7 @@ refused-requires-3 c κs = search needs
 
 returns-3 : tie.Need-returns-3
 returns-3 c =
-    let at = c .before .before .before .before .before .before .before .before .before .before .before .before .before .before in
+    let at = c .before .before .before .before .before .before .before .before .before .before .before .before .before .before .before in
     let a = at .args in
     let passed = c .before .before .before .before .before .before in
     let r = c .refused3 .result in
@@ -117,25 +128,22 @@ returns-3 c =
     (c .before .before .message-question .result)
     (r .answer) (r .state) (r .lengths) (c .before .if3 .taken)
     (c .refused3 .ensures)
-    (accepted (passed .before .before) .passed)
+    (accepted (passed .before .before .before) .passed)
     (state-passes passed)
     (message-is (c .before .before)))
 
-message-passes : (c : tie.Else3) → of-message (c .before .before .before .before .before .before .before .before .before .before .before .before .before) ≡ 0
+message-passes : (c : tie.Else3) → of-message (c .before .before .before .before .before .before .before .before .before .before .before .before .before .before) ≡ 0
 message-passes c = sym (message-is (c .before)) ∙ c .if3 .left
 
 -- ---- the room
-
-rows-of-requires : tie.Need-rows-of-requires
-rows-of-requires c κs = accepted-few (accepted (c .before .before .before .before .before .before .before))
 
 step-requires : tie.Need-step-requires
 step-requires c κs =
     let at = c .before .before .before .before .before .before .before .before .before .before .before .before .before .before .before in
     let a = at .args in
-    let passed = c .before .before .before .before .before .before .before in
-    let all = accepted (passed .before .before) in
-    let rows = c .before .rows-of in
+    let passed = c .before .before .before .before .before .before in
+    let all = accepted (passed .before .before .before) in
+    let rows = passed .before .before .rows-of in
     let named = state-named (a .shape .n) (own at) (a .self) (state-passes passed) in (
       (
         rows-accepted all (rows .ensures),
@@ -148,8 +156,8 @@ step-is : (c : tie.After-step) →
     c .step .result ≡ step (c .before .before .before .before .before .before .before .before .before .before .before .before .before .before .before .before)
 step-is c =
     let a = c .before .before .before .before .before .before .before .before .before .before .before .before .before .before .before .before .args in
-    let rows = c .before .before .rows-of in
-    let read = c .before .before .before .before .before .read-message in
+    let rows = c .before .before .before .before .before .before .before .before .before .rows-of in
+    let read = c .before .before .before .before .read-message in
     step-on (lent (a .shape) (a .sent .now) (a .received .now)) (a .self) (a .s .now) (rows .result) (read .result .message) (c .step .result)
     (rows .ensures .0)
     (read .ensures .1)
@@ -170,13 +178,13 @@ returns-4 c =
     let stepped = c .before .before .before .before .before .before .before .before in
     let at = stepped .before .before .before .before .before .before .before .before .before .before .before .before .before .before .before .before in
     let a = at .args in
-    let read = stepped .before .before .before in
+    let read = stepped .before .before in
     let passed = read .before .before .before .before .before in
     let next = stepped .step .result in
     let r = c .refused4 .result in
     answer-received (lent (a .shape) (a .sent .now) (a .received .now)) (a .self) (a .s .now) (a .out .now) next r (sent .last .1 .0)
     (step-is stepped)
-    (at-room (tables at) (of-state at) (of-message at) (a .self) (next .state) (next .outgoing) (a .out .now) (accepted (passed .before .before) .passed)
+    (at-room (tables at) (of-state at) (of-message at) (a .self) (next .state) (next .outgoing) (a .out .now) (accepted (passed .before .before .before) .passed)
     (state-passes passed)
     (message-passes read)
     (sent .result .question)
@@ -195,12 +203,12 @@ returns-5 c =
     let stepped = c .before .before .before .before .before .before .before .before .before in
     let at = stepped .before .before .before .before .before .before .before .before .before .before .before .before .before .before .before .before in
     let a = at .args in
-    let read = stepped .before .before .before in
+    let read = stepped .before .before in
     let passed = read .before .before .before .before .before in
     let next = stepped .step .result in
     answer-received (lent (a .shape) (a .sent .now) (a .received .now)) (a .self) (a .s .now) (a .out .now) next _ (sent .last .1 .0)
     (step-is stepped)
-    (at-end (tables at) (of-state at) (of-message at) (a .self) (next .state) (next .outgoing) (a .out .now) (accepted (passed .before .before) .passed)
+    (at-end (tables at) (of-state at) (of-message at) (a .self) (next .state) (next .outgoing) (a .out .now) (accepted (passed .before .before .before) .passed)
     (state-passes passed)
     (message-passes read)
     (sent .result .question)
@@ -218,6 +226,7 @@ receive-spec =
     question-requires
     refused-requires
     returns
+    rows-of-requires
     state-question-requires
     refused-requires-2
     returns-2
@@ -225,7 +234,6 @@ receive-spec =
     message-question-requires
     refused-requires-3
     returns-3
-    rows-of-requires
     step-requires
     send-requires
     refused-requires-4

@@ -1,14 +1,11 @@
 -- `state_question` meets its contract.
-use mathlib.Core.Path.{_≡_, sym, subst, _∙_}
+use mathlib.Core.Path.{_≡_, sym, _∙_}
 use mathlib.Core.Bool.{Bool, true}
 use Prim.Native.Nat.{_-_}
 use native.Mathlib.Omega.{arith}
 use borrow.Author.Needs.{needs}
 use borrow.Author.Tests.{not-true, not-false}
 use Rattle.book.specs.Lent.{lent}
-use Rattle.book.specs.declared.Shape.{Shape}
-use Rattle.book.proofs.Starts.{rows-accepted}
-use Rattle.line_theory.proofs.Accepted.{accepted-few}
 use Rattle.book.specs.Names.{isPurpose}
 use Rattle.machine.specs.Own.{ownOf}
 use Rattle.machine.specs.Named.{participantNamed}
@@ -20,73 +17,61 @@ use Rattle.participant.proofs.Participant.state_question.Tie as tie
 
 -- the three answers
 abbrev named : tie.Start → Bool
-named c = let a = c .args in participantNamed (a .shape .n) (a .self .me .0) (a .self .initiator .0)
+named c = let a = c .args in participantNamed (a .rows .shape .n) (a .self .me .0) (a .self .initiator .0)
 
 abbrev purposed : tie.Start → Bool
 purposed c = isPurpose (c .args .self .purpose)
 
 abbrev fitting : tie.Start → Bool
 fitting c =
-    let a = c .args in fits (ownOf (lent (a .shape) (a .sent .now) (a .received .now)) (a .self .me .0 - 1)) (a .self)
+    let a = c .args in fits (ownOf (lent (a .rows .shape) (a .sent .now) (a .received .now)) (a .self .me .0 - 1)) (a .self)
 
 participant-named-requires : tie.Need-participant-named-requires
 participant-named-requires c κs = search needs
 
 returns : tie.Need-returns
 returns c =
-    let at = c .before .before .before .before .before .before in
+    let at = c .before .before .before .before .before .before .before in
     let told = c .before .participant-named in
     first-no 10 11 13 (named at) (purposed at) (fitting at) (omega arith) (sym (told .ensures) ∙ not-true (told .result) (c .if1 .taken))
 
 is-purpose-requires : tie.Need-is-purpose-requires
 is-purpose-requires c κs = search needs
 
-is-named : (c : tie.Else1) → named (c .before .before .before .before .before .before) ≡ true
+is-named : (c : tie.Else1) → named (c .before .before .before .before .before .before .before) ≡ true
 is-named c = let told = c .before .participant-named in sym (told .ensures) ∙ not-false (told .result) (c .if1 .left)
 
 returns-2 : tie.Need-returns-2
 returns-2 c =
-    let at = c .before .before .before .before .before .before .before .before in
+    let at = c .before .before .before .before .before .before .before .before .before in
     let told = c .before .is-purpose in
     second-no 10 11 13 (named at) (purposed at) (fitting at) (is-named (c .before .before)) (omega arith)
     (sym (told .ensures) ∙ not-true (told .result) (c .if2 .taken))
 
-is-purposed : (c : tie.Else2) → purposed (c .before .before .before .before .before .before .before .before) ≡ true
+is-purposed : (c : tie.Else2) → purposed (c .before .before .before .before .before .before .before .before .before) ≡ true
 is-purposed c = let told = c .before .is-purpose in sym (told .ensures) ∙ not-false (told .result) (c .if2 .left)
-
-rows-of-requires : tie.Need-rows-of-requires
-rows-of-requires c κs = accepted-few (c .before .before .before .before .before .before .before .before .pre)
 
 fits-requires : tie.Need-fits-requires
 fits-requires c κs =
     let at = c .before .before .before .before .before .before .before .before .before in
     let a = at .args in
-    let rows = c .rows-of in (
-      rows-accepted (at .pre) (rows .ensures),
-      rw (rows .ensures .0) (named-there (a .shape .n) (a .self .me .0) (a .self .initiator .0) (is-named (c .before .before .before)) .0),
-    )
-
--- the rows are the shape's
-is-fitting : (c : tie.After-fits2) → c .fits2 .result ≡ fitting (c .before .before .before .before .before .before .before .before .before .before)
-is-fitting c =
-    let a = c .before .before .before .before .before .before .before .before .before .before .args in
-    subst
-    (λ (t : Shape). c .fits2 .result ≡ fits (ownOf (lent t (a .sent .now) (a .received .now)) (a .self .me .0 - 1)) (a .self))
-    (c .before .rows-of .ensures .0) (c .fits2 .ensures)
+    (at .pre, named-there (a .rows .shape .n) (a .self .me .0) (a .self .initiator .0) (is-named (c .before .before)) .0)
 
 returns-3 : tie.Need-returns-3
 returns-3 c =
-    let asked = c .before .before .before in
-    let at = asked .before .before .before .before .before .before .before .before in
+    let asked = c .before .before in
+    let at = asked .before .before .before .before .before .before .before .before .before in
+    let told = c .before .fits2 in
     third-no 10 11 13 (named at) (purposed at) (fitting at) (is-named (asked .before .before)) (is-purposed asked)
-    (sym (is-fitting (c .before)) ∙ not-true (c .before .fits2 .result) (c .if3 .taken))
+    (sym (told .ensures) ∙ not-true (told .result) (c .if3 .taken))
 
 returns-4 : tie.Need-returns-4
 returns-4 c =
-    let asked = c .before .before .before in
-    let at = asked .before .before .before .before .before .before .before .before in
+    let asked = c .before .before in
+    let at = asked .before .before .before .before .before .before .before .before .before in
+    let told = c .before .fits2 in
     all-yes 10 11 13 (named at) (purposed at) (fitting at) (is-named (asked .before .before)) (is-purposed asked)
-    (sym (is-fitting (c .before)) ∙ not-false (c .before .fits2 .result) (c .if3 .left))
+    (sym (told .ensures) ∙ not-false (told .result) (c .if3 .left))
 
 pub state-question-spec : {M : Type 1} → statement M
 state-question-spec =
@@ -96,7 +81,6 @@ state-question-spec =
     returns
     is-purpose-requires
     returns-2
-    rows-of-requires
     fits-requires
     returns-3
     returns-4)
