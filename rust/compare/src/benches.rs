@@ -4,7 +4,8 @@
 use crate::book::Book;
 use crate::call::Call;
 use crate::claims::waiting;
-use crate::layout::{session, strand_bytes, Counter, BOOK_BYTES, ORDER_WORDS, PAIR_WORDS, SET_WORDS};
+use crate::layout::{initiator, participant, session, slot_start};
+use crate::layout::{strand_bytes, Counter, BOOK_BYTES, ORDER_WORDS, PAIR_WORDS, SET_WORDS};
 use crate::lent::{Guarded, Lent};
 use crate::line::line;
 use crate::ours;
@@ -23,6 +24,10 @@ pub enum Operation {
     Find,
     /// One turn that delivers the first poll or report after some others.
     Turn,
+    /// The same message, a poll, received by the participant's machine alone.
+    ParticipantReceive,
+    /// The same message, a report, received by the initiator's machine alone.
+    InitiatorReceive,
     /// A start and turns until nothing waits, lowest strand first.
     Session,
     Search,
@@ -51,11 +56,12 @@ pub struct Bench {
     kept_session: Option<Session>,
 }
 
-/// All measured searches are begun by process 1 with this purpose.
+/// All measured searches are begun by this process with this purpose.
+const INITIATOR: u64 = 1;
 const PURPOSE: u64 = 3;
 
 impl Bench {
-    /// An operation on a book; a turn is the one after so many others.
+    /// An operation on a book; a turn, or what a machine receives, is the one after so many others.
     pub fn new(operation: Operation, book: &Book, turns_before: usize) -> Self {
         let lent = lent_for(operation, book);
         let native = Native {
@@ -78,8 +84,18 @@ impl Bench {
             turn: 0,
             kept_session: None,
         };
-        if operation == Operation::Turn {
-            bench.prepare_turn(turns_before);
+        match operation {
+            Operation::Turn => bench.prepare_turn(turns_before),
+            Operation::ParticipantReceive => {
+                bench.prepare_turn(turns_before);
+                let at = session::participant_at(bench.turn as usize);
+                bench.prepare_receive(at, participant::WORDS);
+            }
+            Operation::InitiatorReceive => {
+                bench.prepare_turn(turns_before);
+                bench.prepare_receive(session::MACHINE, initiator::WORDS);
+            }
+            _ => {}
         }
         bench
     }
@@ -107,6 +123,21 @@ impl Bench {
         self.native.out.copy_from_slice(self.lent.out.lent());
     }
 
+    /// Takes the machine that the turn's message goes to, so many words from a place of the session, and the message.
+    fn prepare_receive(&mut self, at: usize, words: usize) {
+        let n = self.native.shape.n as usize;
+        let p = self.turn as usize;
+        let whole = self.lent.state.lent();
+        let length = whole[session::WAITING + p - 1] as usize;
+        let machine = whole[at..at + words].to_vec();
+        let start = slot_start(n, INITIATOR as usize, p);
+        let message = self.lent.out.lent()[start..start + length].to_vec();
+        self.lent.state = Guarded::holding(&machine);
+        self.lent.bytes = Guarded::holding(&message);
+        self.kept = self.lent.clone();
+        self.native.bytes = message;
+    }
+
     /// The lowest waiting strand of the library's session.
     fn next_strand(&self) -> Option<u64> {
         waiting(self.lent.state.lent()).first().map(|&p| p as u64)
@@ -115,7 +146,7 @@ impl Bench {
     /// Puts back what the operation changes and the next run needs as it was; not measured.
     pub fn restore(&mut self) {
         match self.operation {
-            Operation::Turn => {
+            Operation::Turn | Operation::ParticipantReceive | Operation::InitiatorReceive => {
                 self.lent.state.lent_mut().copy_from_slice(self.kept.state.lent());
                 self.lent.out.lent_mut().copy_from_slice(self.kept.out.lent());
                 self.native.session.clone_from(&self.kept_session);
@@ -144,6 +175,8 @@ impl Bench {
             Operation::Find => Call::Find,
             Operation::Search => Call::Search,
             Operation::Move => Call::Move,
+            Operation::ParticipantReceive => Call::ParticipantReceive,
+            Operation::InitiatorReceive => Call::InitiatorReceive,
             Operation::Turn => return self.turn_ours(self.turn),
             Operation::Session => {
                 self.start_ours();
@@ -162,7 +195,7 @@ impl Bench {
     }
 
     fn start_ours(&mut self) {
-        self.lent.names = [1, PURPOSE, 0];
+        self.lent.names = [INITIATOR, PURPOSE, 0];
         self.accept(Call::SessionStart);
     }
 
@@ -189,9 +222,10 @@ impl Bench {
             Operation::Write => black_box(reference::write(shape, sent, received, out)).is_ok(),
             Operation::TestSet => black_box(reference::test_set(shape, sent, received, set)).is_ok(),
             Operation::Find => black_box(reference::find_line(shape, sent, received)).is_ok(),
-            Operation::Search => black_box(reference::search(shape, sent, received, 1, PURPOSE)).is_ok(),
+            Operation::Search => black_box(reference::search(shape, sent, received, INITIATOR, PURPOSE)).is_ok(),
             Operation::Move => black_box(reference::move_line(shape, sent, received, PURPOSE)).is_ok(),
             Operation::Turn => return self.turn_theirs(self.turn),
+            Operation::ParticipantReceive | Operation::InitiatorReceive => return self.receive_theirs(),
             Operation::Session => return self.session_theirs(),
         };
         assert!(accepted, "a measured call is accepted");
@@ -206,7 +240,7 @@ impl Bench {
             session,
             ..
         } = black_box(&mut self.native);
-        let started = reference::session_start(shape, sent, received, 1, PURPOSE, out);
+        let started = reference::session_start(shape, sent, received, INITIATOR, PURPOSE, out);
         *session = Some(started.expect("a measured start is accepted"));
     }
 
@@ -222,6 +256,26 @@ impl Bench {
         let session = session.as_mut().expect("a session was started");
         let turn = black_box(reference::session_turn(session, shape, sent, received, p, out));
         turn.expect("a measured turn is accepted");
+    }
+
+    fn receive_theirs(&mut self) {
+        let Native {
+            shape,
+            sent,
+            received,
+            bytes,
+            out,
+            session,
+            ..
+        } = black_box(&mut self.native);
+        let session = session.as_mut().expect("a session was started");
+        let lengths = black_box(if self.operation == Operation::InitiatorReceive {
+            reference::initiator_receive(&mut session.machine, shape, sent, received, bytes, out)
+        } else {
+            let state = &mut session.participants[self.turn as usize - 1];
+            reference::participant_receive(state, shape, sent, received, bytes, out)
+        });
+        lengths.expect("a measured message is accepted");
     }
 
     fn session_theirs(&mut self) {
@@ -263,7 +317,7 @@ fn lent_for(operation: Operation, book: &Book) -> Lent {
     lent.names = if operation == Operation::Move {
         [PURPOSE, 0, 0]
     } else {
-        [1, PURPOSE, 0]
+        [INITIATOR, PURPOSE, 0]
     };
     lent
 }

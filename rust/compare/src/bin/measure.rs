@@ -21,7 +21,7 @@ use std::process::ExitCode;
 /// What an operation is measured on.
 enum Input {
     Book(fn() -> Book),
-    /// A turn after so many others.
+    /// A turn after so many others, or its message alone.
     Turn(usize),
     Journal(fn() -> Vec<u8>),
 }
@@ -43,11 +43,11 @@ const fn row(name: &'static str, what: &'static str, operation: Operation, book:
     }
 }
 
-const fn turn(name: &'static str, what: &'static str, turns_before: usize) -> Row {
+const fn turn(name: &'static str, what: &'static str, operation: Operation, turns_before: usize) -> Row {
     Row {
         name,
         what,
-        operation: Operation::Turn,
+        operation,
         input: Input::Turn(turns_before),
     }
 }
@@ -80,7 +80,7 @@ fn sixteen_typical() -> Book {
 }
 
 /// All of 16 processes and 256 checkpoints, but for find-254: 2 processes and 256.
-const ROWS: [Row; 15] = [
+const ROWS: [Row; 18] = [
     row("read", "the largest book", Operation::Read, largest),
     row("check", "its tables", Operation::Check, largest),
     row("write", "the largest book", Operation::Write, largest),
@@ -88,9 +88,17 @@ const ROWS: [Row; 15] = [
     row("test_set", "a consistent set", Operation::TestSet, largest),
     row("find-254", "2 processes, T = 254", Operation::Find, two_falling),
     row("find-240", "16 processes, T = 240", Operation::Find, sixteen_falling),
-    turn("turn-down", "a poll to a participant", 36),
-    turn("turn-up", "a report to the initiator", 37),
-    turn("turn-send", "the last report of a wait", 29),
+    turn("turn-down", "a poll to a participant", Operation::Turn, 36),
+    turn("turn-up", "a report to the initiator", Operation::Turn, 37),
+    turn("turn-send", "the last report of a wait", Operation::Turn, 29),
+    turn("poll", "received by a participant", Operation::ParticipantReceive, 36),
+    turn("report", "received by the initiator", Operation::InitiatorReceive, 37),
+    turn(
+        "report-last",
+        "received by the initiator",
+        Operation::InitiatorReceive,
+        29,
+    ),
     row(
         "session",
         "start and turns, T = 48",
