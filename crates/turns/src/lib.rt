@@ -98,7 +98,7 @@ pub fn start(
     post_if_room(turned, none, shape.n, strands)
 }
 
-// A start, without the questions. Inner: asks for a start that no question refuses.
+// A start, without the questions. Inner: asks for the rows of accepted tables, and a start that no question refuses.
 pub fn take_start(
     rows: TableRows,
     sent: &[Counter],
@@ -178,7 +178,7 @@ pub fn turn(
     post_if_room(turned, session, shape.n, strands)
 }
 
-// A turn, without the questions. Inner: asks for a turn that no question refuses.
+// A turn, without the questions. Inner: asks for the rows of accepted tables, and a turn that no question refuses.
 pub fn take_turn(
     session: Session,
     rows: TableRows,

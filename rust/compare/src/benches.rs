@@ -213,7 +213,7 @@ impl Bench {
             bytes,
             out,
             set,
-            ..
+            session,
         } = black_box(&mut self.native);
         let accepted = match self.operation {
             Operation::Read => black_box(reference::read(bytes, sent, received)).is_ok(),
@@ -225,7 +225,14 @@ impl Bench {
             Operation::Search => black_box(reference::search(shape, sent, received, INITIATOR, PURPOSE)).is_ok(),
             Operation::Move => black_box(reference::move_line(shape, sent, received, PURPOSE)).is_ok(),
             Operation::Turn => return self.turn_theirs(self.turn),
-            Operation::ParticipantReceive | Operation::InitiatorReceive => return self.receive_theirs(),
+            Operation::ParticipantReceive => {
+                let state = &mut started(session).participants[self.turn as usize - 1];
+                black_box(reference::participant_receive(state, shape, sent, received, bytes, out)).is_ok()
+            }
+            Operation::InitiatorReceive => {
+                let state = &mut started(session).machine;
+                black_box(reference::initiator_receive(state, shape, sent, received, bytes, out)).is_ok()
+            }
             Operation::Session => return self.session_theirs(),
         };
         assert!(accepted, "a measured call is accepted");
@@ -240,8 +247,8 @@ impl Bench {
             session,
             ..
         } = black_box(&mut self.native);
-        let started = reference::session_start(shape, sent, received, INITIATOR, PURPOSE, out);
-        *session = Some(started.expect("a measured start is accepted"));
+        let begun = reference::session_start(shape, sent, received, INITIATOR, PURPOSE, out);
+        *session = Some(begun.expect("a measured start is accepted"));
     }
 
     fn turn_theirs(&mut self, p: u64) {
@@ -253,29 +260,8 @@ impl Bench {
             session,
             ..
         } = black_box(&mut self.native);
-        let session = session.as_mut().expect("a session was started");
-        let turn = black_box(reference::session_turn(session, shape, sent, received, p, out));
+        let turn = black_box(reference::session_turn(started(session), shape, sent, received, p, out));
         turn.expect("a measured turn is accepted");
-    }
-
-    fn receive_theirs(&mut self) {
-        let Native {
-            shape,
-            sent,
-            received,
-            bytes,
-            out,
-            session,
-            ..
-        } = black_box(&mut self.native);
-        let session = session.as_mut().expect("a session was started");
-        let lengths = black_box(if self.operation == Operation::InitiatorReceive {
-            reference::initiator_receive(&mut session.machine, shape, sent, received, bytes, out)
-        } else {
-            let state = &mut session.participants[self.turn as usize - 1];
-            reference::participant_receive(state, shape, sent, received, bytes, out)
-        });
-        lengths.expect("a measured message is accepted");
     }
 
     fn session_theirs(&mut self) {
@@ -297,6 +283,11 @@ impl Bench {
     pub fn delivered(&self) -> u64 {
         self.lent.state.lent()[session::DELIVERED]
     }
+}
+
+/// The session that a turn, or a machine of it, goes on with.
+fn started(session: &mut Option<Session>) -> &mut Session {
+    session.as_mut().expect("a session was started")
 }
 
 /// What an operation is lent through the C interface.
