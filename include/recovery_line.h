@@ -16,8 +16,8 @@
  *     for its element, and points to as many elements, all of which are initialised, also those that are only written.
  *   - What a function writes to (a pointer without `const`) overlaps nothing else that is lent to the same call. What it
  *     only reads may overlap.
- *   - A pointer to a single number (`length`, `passed`, `newer`, `rounds`, `messages`) is never null, is aligned, and points to
- *     a number that is initialised.
+ *   - A pointer to a single number (`length`, `partner`, `passed`, `newer`, `rounds`, `messages`) is never null, is aligned, and
+ *     points to a number that is initialised.
  *   - While a call runs, nobody else writes what is lent to it or reads what it writes. Calls that share only what they
  *     read may run at the same time, in any threads, and from signal handlers.
  *   - Stack: no call was measured to need more than RECOVERY_LINE_STACK_BYTES; on a signal handler's stack that comes on top of
@@ -25,7 +25,8 @@
  *
  * Words. Shapes, sets, states, sessions, lengths and orders cross as 64-bit words in slices of a fixed, named length, with a
  * name too for the place of each part, as RECOVERY_LINE_INITIATOR_ROUNDS_AT. A slice of words of any other length is refused
- * by RECOVERY_LINE_WRONG_LENGTH, before every question. Tables have another rule: question 2 asks their lengths.
+ * by RECOVERY_LINE_WRONG_LENGTH, before every question. The same holds of sixteen counters that are lent beside the tables, as
+ * `known`; they have a table entry's type. Tables have another rule: question 2 asks their lengths.
  *   shape        n, then sixteen counts of checkpoints; 0 for absent processes.
  *   set, line    sixteen checkpoint numbers; 0 for absent processes.
  *   pair         two process numbers.
@@ -67,7 +68,7 @@ extern "C" {
 
 /* The version of this interface: it changes when a declaration, a layout or the meaning of a call does; a call that is added
  * changes none of them. */
-#define RECOVERY_LINE_VERSION 2
+#define RECOVERY_LINE_VERSION 3
 
 /* Bounds. */
 #define RECOVERY_LINE_PROCESSES 16
@@ -135,7 +136,8 @@ extern "C" {
 /* An entry of a table: a counter. */
 typedef uint32_t recovery_line_counter;
 
-/* A counter that is not known, in a state's rows, columns and matrices; never in tables or messages. */
+/* A counter that is not known, in a state's rows, columns and matrices, and in a column that is lent; never in tables or
+ * messages. */
 #define RECOVERY_LINE_NOT_KNOWN 4294967295u
 
 /* Purposes. */
@@ -148,7 +150,7 @@ typedef uint32_t recovery_line_counter;
 #define RECOVERY_LINE_EVENT_RECEIVED 2 /* by the process from the partner */
 #define RECOVERY_LINE_EVENT_CHECKPOINT 3
 
-/* The answer of a call that accepts, and of one that is lent a slice of words of the wrong length. */
+/* The answer of a call that accepts, and of one that is lent a slice of words, or of sixteen counters, of the wrong length. */
 #define RECOVERY_LINE_ACCEPTED 0
 #define RECOVERY_LINE_WRONG_LENGTH 100
 
@@ -181,13 +183,23 @@ uint32_t recovery_line_write(const uint64_t *shape, size_t shape_len, const reco
                              size_t sent_len, const recovery_line_counter *received, size_t received_len, uint8_t *out,
                              size_t out_len, uint64_t *length);
 
-/* Tests a set: `pair` becomes 0 0 if it is consistent, and else a pair (j, p) at fault: j's checkpoint received more from p
- * than p's sent to j. Which, where there are several, is not promised.
+/* Tests a set: `pair` becomes 0 0 if it is consistent, and else the first pair (j, p) at fault, of the lowest j and for it the
+ * lowest p: j's checkpoint received more from p than p's sent to j.
  * Questions: the tables', 12.
  * Stack: 2048 bytes. */
 uint32_t recovery_line_test_set(const uint64_t *shape, size_t shape_len, const recovery_line_counter *sent,
                                 size_t sent_len, const recovery_line_counter *received, size_t received_len,
                                 const uint64_t *set, size_t set_len, uint64_t *pair, size_t pair_len);
+
+/* Tests one checkpoint of a process against a column, `known`: what each of sixteen processes is known to have sent to that
+ * process. `partner` becomes the lowest process from which the checkpoint received more than that, and 0 exactly if there is
+ * none. What is RECOVERY_LINE_NOT_KNOWN permits everything; the entries of the process itself and of absent ones do not matter.
+ * Questions: the tables', 10, 12.
+ * Stack: 2048 bytes. */
+uint32_t recovery_line_test_checkpoint(const uint64_t *shape, size_t shape_len, const recovery_line_counter *sent,
+                                       size_t sent_len, const recovery_line_counter *received, size_t received_len,
+                                       uint64_t process, uint64_t checkpoint, const recovery_line_counter *known,
+                                       size_t known_len, uint64_t *partner);
 
 /* Finds the line, and how many checkpoints are newer than the line's.
  * Questions: the tables'.

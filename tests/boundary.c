@@ -1,88 +1,18 @@
 /*
  * What C can do at the boundary, legally: null pointers with length 0, slices of words and tables one element too short or
- * too long, buffers of the exact size and one byte less, and memory that ends where a slice does.
+ * too long, buffers of the exact size and one byte less, memory that ends where a slice does, and slices that are only read and
+ * overlap.
  *
  *     boundary heap|end|start
  *
  * Where slices are lent in blocks of their own, these are of the heap, or end or start at a page that cannot be touched.
  */
-#include "boundary.h"
+#include "boundary_arena.h"
 
-#include <stdio.h>
-#include <stdlib.h>
-#include <string.h>
 #include <sys/mman.h>
 #include <unistd.h>
 
-/* All slices with guard bytes around each, and as they stand before each call. */
-static uint8_t *arena, *prepared;
-static size_t arena_size, place[SLICES];
-
-static bool group_failed, any_failed;
-
-static void expect(bool holds, const char *call, const char *slice, const char *what) {
-    if (!holds) {
-        printf("boundary:   %s, %s: %s\n", call, slice, what);
-        group_failed = true;
-    }
-}
-
-static void end_group(const char *what) {
-    printf("boundary: %s: %s\n", group_failed ? "FAILED" : "ok", what);
-    any_failed |= group_failed;
-    group_failed = false;
-}
-
-/* Lends every slice in the arena, with its right length, as prepared. */
-static void lend_all(void) {
-    memcpy(arena, prepared, arena_size);
-    for (int s = 0; s < SLICES; s++) {
-        lent[s].start = arena + place[s];
-        lent[s].elements = kinds[s].elements;
-    }
-}
-
-static void lend_nothing(enum slice s) {
-    lent[s].start = NULL;
-    lent[s].elements = 0;
-}
-
-static bool unchanged(void) { return memcmp(arena, prepared, arena_size) == 0; }
-
-/* Whether a call has kept to what it writes: all else is unchanged, with the guard bytes and the spare elements. */
-static bool rest_unchanged(const struct call *call) {
-    for (int s = 0; s < SLICES; s++) {
-        bool part = s == OUT || s == STRANDS;
-        size_t from = part ? call->from : 0, to = part ? call->to : kinds[s].elements * kinds[s].size;
-        if (call->writes & OF(s)) {
-            memcpy(arena + place[s] + from, prepared + place[s] + from, to - from);
-        }
-    }
-    return unchanged();
-}
-
-/* Finds each slice its place: guard bytes, the slice, one element to spare. */
-static void lay_out(void) {
-    size_t at = GUARD;
-    for (int s = 0; s < SLICES; s++) {
-        place[s] = at;
-        at += (kinds[s].elements + 1) * kinds[s].size + GUARD;
-        at += (8 - at % 8) % 8;
-    }
-    arena_size = at;
-    arena = (uint8_t *)malloc(at);
-    prepared = (uint8_t *)malloc(at);
-    if (arena == NULL || prepared == NULL) {
-        exit(2);
-    }
-    for (size_t i = 0; i < at; i++) {
-        prepared[i] = (uint8_t)(0xA5 ^ i % 251);
-    }
-}
-
-static void put(enum slice s, const void *content, size_t size) { memcpy(arena + place[s], content, size); }
-
-/* Fills what the calls read: tables, a set, messages and states; all else keeps its pattern. */
+/* Fills what the calls read: tables, a set, a column, messages and states; all else keeps its pattern. */
 static void prepare(void) {
     const uint64_t set[RECOVERY_LINE_SET_WORDS] = {2, 2, 2};
     lay_out();
@@ -90,6 +20,7 @@ static void prepare(void) {
     put(BYTES, book, sizeof book);
     put(EVENTS, journal, sizeof journal);
     put(SET, set, sizeof set);
+    put(KNOWN, known, sizeof known);
     put(INVITATION, invitation, sizeof invitation);
     put(REPORT, report, sizeof report);
     expect(call_read() == 0, "read", "-", "the book is accepted");
@@ -127,7 +58,7 @@ static void wrong_words_come_first(void) {
     for (int c = 0; c < CALLS; c++) {
         for (int s = 0; s < SLICES; s++) {
             const size_t lengths[] = {0, kinds[s].elements - 1, kinds[s].elements + 1};
-            if (!kinds[s].words || !((calls[c].reads | calls[c].writes) & OF(s))) {
+            if (!kinds[s].fixed || !((calls[c].reads | calls[c].writes) & OF(s))) {
                 continue;
             }
             for (int i = 0; i < 3; i++) {
@@ -143,7 +74,7 @@ static void wrong_words_come_first(void) {
             }
         }
     }
-    end_group("a slice of words that is missing, or one too short or too long, is refused first");
+    end_group("a slice of words or a column that is missing, or one too short or too long, is refused first");
 }
 
 static void wrong_tables_come_second(void) {
@@ -210,6 +141,30 @@ static void no_bytes_needed(void) {
     expect(call_session_turn() == 10, "session_turn", "strands", "no other process has a turn");
     expect(call_search() == 0, "search", "-", "one process is accepted");
     end_group("one process needs no bytes for messages");
+}
+
+static uint64_t word(enum slice s, int at) { return ((uint64_t *)lent[s].start)[at]; }
+
+/* K's example 1: R1,2,2 = 4 is more than S2,2,1 = 3. */
+static void first_pair_is_shown(void) {
+    lend_all();
+    expect(call_test_set() == 0 && word(PAIR, 0) == 1 && word(PAIR, 1) == 2, "test_set", "pair", "is 1 2");
+    expect(call_test_checkpoint() == 0 && word(PARTNER, 0) == 2, "test_checkpoint", "partner", "is 2");
+    end_group("the first pair at fault is shown, and the lowest partner named");
+}
+
+/* One table for both, and a row of it for the column: process 1's newest row permits itself, its oldest nothing. */
+static void reads_may_overlap(void) {
+    const uint64_t partners[] = {2, 0};
+    for (int row = 0; row < 2; row++) {
+        lend_all();
+        lent[SENT] = lent[RECEIVED];
+        lent[KNOWN].start = (recovery_line_counter *)lent[RECEIVED].start + row * RECOVERY_LINE_PROCESSES;
+        expect(call_test_checkpoint() == 0, "test_checkpoint", "known", "may be a row of a table");
+        expect(word(PARTNER, 0) == partners[row], "test_checkpoint", "partner", "goes by that row");
+        expect(rest_unchanged(&calls[TEST_CHECKPOINT]), "test_checkpoint", "-", "changes only what it writes");
+    }
+    end_group("what is only read may overlap");
 }
 
 /* Blocks: each slice by itself, in memory that ends with it or starts with it. */
@@ -383,6 +338,8 @@ int main(int argc, char **argv) {
     wrong_words_come_first();
     wrong_tables_come_second();
     nothing_at_all();
+    first_pair_is_shown();
+    reads_may_overlap();
     no_bytes();
     no_bytes_needed();
     exact_blocks();

@@ -9,17 +9,18 @@
 #include <stdbool.h>
 
 /* Every slice that some call is lent. Process 1 begins a search with purpose 3; 2 is invited and then reports. */
-enum slice { BYTES, EVENTS, SHAPE, SENT, RECEIVED, OUT, SET, PAIR, LINE, PARTICIPANT, INVITATION, INITIATOR, REPORT, LENGTHS,
-             SESSION, STRANDS, ORDER, LENGTH, PASSED, ROUNDS, MESSAGES, SLICES };
+enum slice { BYTES, EVENTS, SHAPE, SENT, RECEIVED, OUT, SET, PAIR, KNOWN, LINE, PARTICIPANT, INVITATION, INITIATOR, REPORT,
+             LENGTHS, SESSION, STRANDS, ORDER, LENGTH, PARTNER, PASSED, ROUNDS, MESSAGES, SLICES };
 #define OF(slice) (1u << (slice))
 #define TABLES (OF(SHAPE) | OF(SENT) | OF(RECEIVED))
 
 enum { PURPOSE = RECOVERY_LINE_ADVANCE_AND_RESTART, GUARD = 64, SLOT = RECOVERY_LINE_MESSAGE_BYTES(3) };
 
+/* A slice of fixed length: any other is refused first. */
 struct kind {
     const char *name;
     size_t size, elements;
-    bool words;
+    bool fixed;
 };
 static const struct kind kinds[SLICES] = {
     {"bytes", 1, 28, false},
@@ -30,6 +31,7 @@ static const struct kind kinds[SLICES] = {
     {"out", 1, 64, false},
     {"set", 8, RECOVERY_LINE_SET_WORDS, true},
     {"pair", 8, RECOVERY_LINE_PAIR_WORDS, true},
+    {"known", sizeof(recovery_line_counter), RECOVERY_LINE_PROCESSES, true},
     {"line", 8, RECOVERY_LINE_SET_WORDS, true},
     {"participant's state", 8, RECOVERY_LINE_PARTICIPANT_WORDS, true},
     {"invitation", 1, 6, false},
@@ -40,6 +42,7 @@ static const struct kind kinds[SLICES] = {
     {"strands", 1, RECOVERY_LINE_STRAND_BYTES(3), false},
     {"order", 8, RECOVERY_LINE_ORDER_WORDS, true},
     {"length", 8, 1, false},
+    {"partner", 8, 1, false},
     {"passed", 8, 1, false},
     {"rounds", 8, 1, false},
     {"messages", 8, 1, false},
@@ -52,6 +55,8 @@ static const uint8_t book[] = {3, 2, 0, 0, 0, 0, 0, 0, 4, 5, 2, 0, 0, 0, 0, 3, 0
 static const uint8_t journal[] = {3, TWO(2, 1), SENT_AND_RECEIVED(2, 1), 3, 2, SENT_AND_RECEIVED(2, 1), TWO(3, 1), TWO(3, 1),
                                   SENT_AND_RECEIVED(3, 1), 3, 1, TWO(3, 1), 3, 3};
 static const uint8_t lonely_book[] = {1, 3};
+/* What the newest checkpoints of its others had sent to process 1. */
+static const recovery_line_counter known[RECOVERY_LINE_PROCESSES] = {0, 3, 7};
 static const uint8_t invitation[] = {1, PURPOSE, 1, 1, 1, 0};
 static const uint8_t report[] = {2, PURPOSE, 2, 2, 1, 3, 3, 0};
 static const uint8_t other_report[] = {2, PURPOSE, 3, 2, 1, 7, 2, 0};
@@ -73,6 +78,9 @@ static uint32_t call_journal(void) { return recovery_line_journal(U8(EVENTS), LE
 static uint32_t call_check(void) { return recovery_line_check(LENT_TABLES); }
 static uint32_t call_write(void) { return recovery_line_write(LENT_TABLES, U8(OUT), NUMBER(LENGTH)); }
 static uint32_t call_test_set(void) { return recovery_line_test_set(LENT_TABLES, U64(SET), U64(PAIR)); }
+static uint32_t call_test_checkpoint(void) {
+    return recovery_line_test_checkpoint(LENT_TABLES, 1, 2, COUNTERS(KNOWN), NUMBER(PARTNER));
+}
 static uint32_t call_find(void) { return recovery_line_find(LENT_TABLES, U64(LINE), NUMBER(PASSED)); }
 static uint32_t call_participant_first(void) {
     return recovery_line_participant_first(LENT_TABLES, 2, 1, PURPOSE, U64(PARTICIPANT));
@@ -105,14 +113,15 @@ struct call {
     unsigned reads, writes;
     size_t from, to;
 };
-enum { READ, JOURNAL, CHECK, WRITE, TEST_SET, FIND, PARTICIPANT_FIRST, PARTICIPANT_RECEIVE, INITIATOR_BEGIN, INITIATOR_RECEIVE,
-       SESSION_START, SESSION_TURN, SEARCH, MOVE, RESTART_ORDER, CALLS };
+enum { READ, JOURNAL, CHECK, WRITE, TEST_SET, TEST_CHECKPOINT, FIND, PARTICIPANT_FIRST, PARTICIPANT_RECEIVE, INITIATOR_BEGIN,
+       INITIATOR_RECEIVE, SESSION_START, SESSION_TURN, SEARCH, MOVE, RESTART_ORDER, CALLS };
 static const struct call calls[CALLS] = {
     {"read", call_read, OF(BYTES), TABLES, 0, 0},
     {"journal", call_journal, OF(EVENTS), TABLES, 0, 0},
     {"check", call_check, TABLES, 0, 0, 0},
     {"write", call_write, TABLES, OF(OUT) | OF(LENGTH), 0, sizeof book},
     {"test_set", call_test_set, TABLES | OF(SET), OF(PAIR), 0, 0},
+    {"test_checkpoint", call_test_checkpoint, TABLES | OF(KNOWN), OF(PARTNER), 0, 0},
     {"find", call_find, TABLES, OF(LINE) | OF(PASSED), 0, 0},
     {"participant_first", call_participant_first, TABLES, OF(PARTICIPANT), 0, 0},
     {"participant_receive", call_participant_receive, TABLES | OF(INVITATION), OF(PARTICIPANT) | OF(OUT) | OF(LENGTHS), 0,

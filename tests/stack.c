@@ -24,8 +24,8 @@ static uint64_t shape[RECOVERY_LINE_SHAPE_WORDS], set[RECOVERY_LINE_SET_WORDS], 
 static uint64_t line[RECOVERY_LINE_SET_WORDS], order[RECOVERY_LINE_ORDER_WORDS], lengths[RECOVERY_LINE_LENGTHS_WORDS];
 static uint64_t participants[PROCESSES][RECOVERY_LINE_PARTICIPANT_WORDS], initiator[RECOVERY_LINE_INITIATOR_WORDS];
 static uint64_t session[RECOVERY_LINE_SESSION_WORDS];
-static recovery_line_counter sent[ENTRIES], received[ENTRIES];
-static uint64_t book_length, journal_length, passed, rounds, messages, first, me, purpose;
+static recovery_line_counter sent[ENTRIES], received[ENTRIES], known[PROCESSES];
+static uint64_t book_length, journal_length, partner, passed, rounds, messages, first, me, checkpoint, purpose;
 static const uint8_t *message;
 static size_t message_length;
 
@@ -34,6 +34,9 @@ static uint32_t call_journal(void) { return recovery_line_journal(journal, (size
 static uint32_t call_check(void) { return recovery_line_check(TABLES); }
 static uint32_t call_write(void) { return recovery_line_write(TABLES, ARRAY(book), &book_length); }
 static uint32_t call_test_set(void) { return recovery_line_test_set(TABLES, ARRAY(set), ARRAY(pair)); }
+static uint32_t call_test_checkpoint(void) {
+    return recovery_line_test_checkpoint(TABLES, me, checkpoint, ARRAY(known), &partner);
+}
 static uint32_t call_find(void) { return recovery_line_find(TABLES, ARRAY(line), &passed); }
 static uint32_t call_participant_first(void) {
     return recovery_line_participant_first(TABLES, me, first, purpose, ARRAY(participants[me - 1]));
@@ -60,8 +63,8 @@ static uint32_t call_search(void) {
 static uint32_t call_move(void) { return recovery_line_move(TABLES, purpose, ARRAY(order)); }
 static uint32_t call_restart_order(void) { return recovery_line_restart_order(TABLES, purpose, ARRAY(order)); }
 
-enum call { READ, JOURNAL, CHECK, WRITE, TEST_SET, FIND, PARTICIPANT_FIRST, PARTICIPANT_RECEIVE, INITIATOR_BEGIN,
-            INITIATOR_RECEIVE, SESSION_START, SESSION_TURN, SEARCH, MOVE, RESTART_ORDER, CALLS };
+enum call { READ, JOURNAL, CHECK, WRITE, TEST_SET, TEST_CHECKPOINT, FIND, PARTICIPANT_FIRST, PARTICIPANT_RECEIVE,
+            INITIATOR_BEGIN, INITIATOR_RECEIVE, SESSION_START, SESSION_TURN, SEARCH, MOVE, RESTART_ORDER, CALLS };
 static struct {
     const char *name;
     uint32_t (*run)(void);
@@ -73,6 +76,7 @@ static struct {
     {"check", call_check, 0, 0},
     {"write", call_write, 0, 0},
     {"test_set", call_test_set, 0, 0},
+    {"test_checkpoint", call_test_checkpoint, 0, 0},
     {"find", call_find, 0, 0},
     {"participant_first", call_participant_first, 0, 0},
     {"participant_receive", call_participant_receive, 0, 0},
@@ -238,6 +242,22 @@ static void measure_books(void) {
     measure(TEST_SET);
 }
 
+/* The newest checkpoints of the first and the last process, against nothing known and nothing sent, and one that there is not. */
+static void measure_checkpoints(void) {
+    for (me = 1; me <= shape[0]; me += shape[0] > 1 ? shape[0] - 1 : 1) {
+        checkpoint = shape[RECOVERY_LINE_SHAPE_COUNTS_AT + me - 1];
+        for (unsigned p = 0; p < PROCESSES; p++) {
+            known[p] = RECOVERY_LINE_NOT_KNOWN;
+        }
+        accepted(TEST_CHECKPOINT);
+        memset(known, 0, sizeof known);
+        accepted(TEST_CHECKPOINT);
+        checkpoint++;
+        measure(TEST_CHECKPOINT);
+    }
+    measure(TEST_CHECKPOINT);
+}
+
 static void measure_moves(void) {
     for (purpose = 1; purpose <= 4; purpose++) {
         measure(RESTART_ORDER);
@@ -324,6 +344,7 @@ static void measure_machines(void) {
 static void measure_all(void) {
     accepted(WRITE);
     measure_books();
+    measure_checkpoints();
     for (purpose = 1; purpose <= 3; purpose++) {
         for (first = 1; first <= shape[0]; first += shape[0] > 1 ? shape[0] - 1 : 1) {
             accepted(SEARCH);

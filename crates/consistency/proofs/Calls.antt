@@ -1,23 +1,33 @@
 -- From accepted tables to what the functions below a call are given, and from what those answer to the test of a set.
-use mathlib.Core.Path.{_≡_, sym, _∙_}
+use mathlib.Core.Path.{_≡_, refl, sym, ap, _∙_}
 use mathlib.Core.Bool.{true, false}
 use mathlib.Core.List.{List}
 use Prim.Native.Nat.{ℕ, _-_, _≤_, _<_}
 use native.Mathlib.Omega.{arith}
+use borrow.Author.Tests.{leb-true}
+use lib.Dec.{leb}
 use Rattle.book.specs.Lent.{Tables}
 use Rattle.book.specs.declared.Checkpoint.{Checkpoint}
+use Rattle.book.specs.declared.Count.{Count}
 use Rattle.book.specs.declared.TableRows.{TableRows}
+use Rattle.book.specs.Names.{isNamed}
+use Rattle.book.specs.View.{count}
 use Rattle.book.specs.InTurn.{ask}
 use Rattle.book.specs.Check.{tablesQuestion}
 use Rattle.book.specs.Accepted.{AcceptedRows, IsProcess}
-use Rattle.book.proofs.Questions.{then-passed, then-refused, then-both, ask-yes, ask-no}
-use Rattle.line_theory.specs.Sets.{View, IsSet}
+use Rattle.book.proofs.Names.{named-in}
+use Rattle.book.proofs.Questions.{then-passed, then-refused, then-none, then-both, ask-yes, ask-no, asked-yes}
+use Rattle.lists.proofs.Tests.{and-both}
+use Rattle.line_theory.specs.Sets.{View, IsSet, firstFault}
 use Rattle.line_theory.specs.OfTables.{viewOf}
 use Rattle.line_theory.proofs.Accepted.{accepted-size, accepted-lengths, received-rises, rows-placed}
 use Rattle.consistency.specs.declared.SetAnswer.{SetAnswer}
-use Rattle.consistency.specs.declared.SetAnswer.the-variants.{Consistent, AtFault, Refused}
-use Rattle.consistency.specs.Set.{chosen, allThere, testQuestion, Tested}
-use Rattle.consistency.specs.Given.{Whole, Rises, Paired}
+use Rattle.consistency.specs.declared.SetAnswer.the-variants.{Refused}
+use Rattle.consistency.specs.declared.CheckpointAnswer.{CheckpointAnswer}
+use Rattle.consistency.specs.Set.{chosen, isThere, allThere, testQuestion, shownAs, shownOr, answerToTest}
+use Rattle.consistency.specs.Known.{counters, columnQuestion, offending, namedOr, answerToColumn}
+use Rattle.consistency.specs.Given.{Whole, Rises}
+use Rattle.consistency.proofs.Answers.{set-refused}
 
 -- the rows that a call finds, in each of the accepted tables
 module _ {rows : TableRows} {sent received : List ℕ} (given : AcceptedRows rows sent received) where
@@ -37,24 +47,73 @@ named-is-set named = record { some = λ j k. named j k .0; among = λ j k. named
 -- ---- the test of a set
 
 module _ (t : Tables) (s : List Checkpoint) where
-  pub test-refused : (question : ℕ) → question ≡ tablesQuestion t → (question ≡ 0 → ⊥) → Tested t s (Refused question)
+  answered : {a : SetAnswer} (question : ℕ) → question ≡ testQuestion t s → a ≡ shownOr question (firstFault (viewOf t) (chosen s))
+      → a ≡ answerToTest t s
+  unfolding answerToTest
+  answered question e f = f ∙ ap (λ (q : ℕ). shownOr q (firstFault (viewOf t) (chosen s))) e
+
+  pub test-refused : (question : ℕ) → question ≡ tablesQuestion t → (question ≡ 0 → ⊥) → Refused question ≡ answerToTest t s
   unfolding testQuestion
   test-refused question e h =
-      (then-refused (tablesQuestion t) (λ _. ask 12 (allThere (t .shape) s)) (λ z. h (e ∙ z)) ∙ sym e, h)
+      answered question
+      (e ∙ sym (then-refused (tablesQuestion t) (λ _. ask 12 (allThere (t .shape) s)) (λ z. h (e ∙ z))))
+      (set-refused question (firstFault (viewOf t) (chosen s)) h)
 
   module _ (none : tablesQuestion t ≡ 0) where
-    pub test-missing : allThere (t .shape) s ≡ false → Tested t s (Refused 12)
+    pub test-missing : allThere (t .shape) s ≡ false → Refused 12 ≡ answerToTest t s
     unfolding testQuestion
-    test-missing h = (
-      then-passed (tablesQuestion t) (λ _. ask 12 (allThere (t .shape) s)) none ∙ ask-no 12 (allThere (t .shape) s) h,
-      λ e. absurd (omega arith),
-    )
+    test-missing h =
+        answered 12
+        (sym (then-passed (tablesQuestion t) (λ _. ask 12 (allThere (t .shape) s)) none ∙ ask-no 12 (allThere (t .shape) s) h))
+        refl
 
-    pub test-asked : allThere (t .shape) s ≡ true → testQuestion t s ≡ 0
+    pub test-shown : allThere (t .shape) s ≡ true → {a : SetAnswer} → a ≡ shownAs (firstFault (viewOf t) (chosen s)) → a ≡ answerToTest t s
     unfolding testQuestion
-    test-asked h = then-both (tablesQuestion t) (λ _. ask 12 (allThere (t .shape) s)) none (ask-yes 12 (allThere (t .shape) s) h)
+    test-shown h told =
+        answered 0
+        (sym (then-both (tablesQuestion t) (λ _. ask 12 (allThere (t .shape) s)) none (ask-yes 12 (allThere (t .shape) s) h)))
+        told
 
-  pub test-pairs : (a : SetAnswer) → testQuestion t s ≡ 0 → Paired (viewOf t) (chosen s) a → Tested t s a
-  test-pairs Consistent e h = (e, h)
-  test-pairs (AtFault j p) e h = (e, h)
-  test-pairs (Refused question) e h = absurd h
+-- ---- the test of one checkpoint
+
+module _ (t : Tables) (j r : ℕ) where
+  pub column-tables : (question : ℕ) → question ≡ tablesQuestion t → (question ≡ 0 → ⊥) → question ≡ columnQuestion t j r
+  unfolding columnQuestion
+  column-tables question e h = e ∙ sym (then-refused (tablesQuestion t) _ (λ z. h (e ∙ z)))
+
+  module _ (none : tablesQuestion t ≡ 0) where
+    pub column-unnamed : isNamed (t .shape .n) j ≡ false → 10 ≡ columnQuestion t j r
+    unfolding columnQuestion
+    column-unnamed h = rw (none, h)
+
+    module _ (named : isNamed (t .shape .n) j ≡ true) where
+      pub column-missing : isThere true (count (t .shape) (j - 1)) r ≡ false → 12 ≡ columnQuestion t j r
+      unfolding columnQuestion
+      column-missing h = rw (none, named, h)
+
+      pub column-asked : isThere true (count (t .shape) (j - 1)) r ≡ true → 0 ≡ columnQuestion t j r
+      unfolding columnQuestion
+      column-asked h = rw (none, named, h)
+
+  -- what was asked, where none refuses
+  pub record Asked : Type 0 where
+    pub tables : tablesQuestion t ≡ 0
+    pub process : (1 ≤ j) × (j ≤ t .shape .n)
+    pub checkpoint : (1 ≤ r) × (r ≤ count (t .shape) (j - 1))
+
+  pub column-passed : columnQuestion t j r ≡ 0 → Asked
+  unfolding columnQuestion
+  column-passed e =
+      let first = then-none (tablesQuestion t) _ e in
+      let rest = then-none (ask 10 (isNamed (t .shape .n) j)) _ (first .1) in
+      let there = and-both (leb 1 r) (leb r (count (t .shape) (j - 1))) (asked-yes 11 _ (rest .1)) in
+      record {
+        tables = first .0;
+        process = named-in (t .shape .n) j (asked-yes 9 (isNamed (t .shape .n) j) (rest .0));
+        checkpoint = (leb-true 1 r (there .0), leb-true r (count (t .shape) (j - 1)) (there .1));
+      }
+
+  pub column-answered : {a : CheckpointAnswer} (known : List Count) (question : ℕ) → question ≡ columnQuestion t j r
+      → a ≡ namedOr question (offending t j r (counters known)) → a ≡ answerToColumn t j r known
+  unfolding answerToColumn
+  column-answered known question e f = f ∙ ap (λ (q : ℕ). namedOr q (offending t j r (counters known))) e

@@ -1,47 +1,46 @@
--- The pairs of a set, from the tests of its checkpoints.
-use mathlib.Core.Path.{_≡_, subst}
-use mathlib.Core.Bool.{true, not}
-use Prim.Native.Nat.{ℕ, _+_, _-_, _<_}
-use native.Mathlib.Decide.{ℕ-discrete}
-use native.Mathlib.Omega.{arith}
-use borrow.Author.Tests.{lt-ltb, ne-eqb}
-use lib.ListN.{set}
+-- The first pair of a set at fault, from the tests of its checkpoints.
+use mathlib.Core.Path.{_≡_, sym, ap, subst, _∙_}
+use mathlib.Core.Option.{none, some}
+use Prim.Native.Nat.{ℕ, suc, _+_, _-_, _<_}
+use native.Mathlib.Numerals.{add-one}
 use Rattle.book.specs.declared.Process.{Process}
-use Rattle.line_theory.specs.Sets.{View, IsBook, IsSet, consistent}
-use Rattle.line_theory.specs.Search.{permitted, sentTo}
-use Rattle.line_theory.proofs.Tests.{permits-consistent, test-is-pairwise}
+use Rattle.lists.proofs.Before.{Before}
+use Rattle.line_theory.specs.Sets.{View, IsBook, IsSet, firstFault}
+use Rattle.line_theory.specs.Search.{lowestOffending, sentTo}
+use Rattle.line_theory.proofs.Tests.{permits-consistent}
+use Rattle.line_theory.proofs.Theorems.{no-pair-is-consistent, none-offends-is-permitted, pair-names-partner}
 use Rattle.consistency.specs.declared.Permission.{Permission}
 use Rattle.consistency.specs.declared.Permission.the-variants.{Permitted, Offends}
-use Rattle.consistency.specs.Set.{IsAtFault}
-use Rattle.consistency.specs.Known.{Offender}
-use Rattle.consistency.specs.Given.{InSet}
+use Rattle.consistency.specs.declared.SetAnswer.the-variants.{Consistent, AtFault}
+use Rattle.consistency.specs.Set.{shownAs}
+use Rattle.consistency.specs.Given.{inSet}
 use Rattle.consistency.proofs.Permits.{from-one}
+use Rattle.consistency.proofs.Answers.{partner-named, nobody-named}
 
--- an offending partner is the second of a pair at fault: not the process itself, whose own column is zero
-pub pair-shown : {m : ℕ} {v : View} {c : ℕ → ℕ} (j : ℕ) (a : Permission) (p : Process) → IsBook m v → IsSet v c → j < v .n
-    → a ≡ Offends p → InSet v c (j + 1 - 1) a → IsAtFault v c (j + 1) (p .0)
-pair-shown {m} {v} {c} j a p book is-set i e h = record {
-  first = (omega arith, omega arith);
-  second = offender .partner;
-  fault = rw (from-one j) (elim (ℕ-discrete j (p .0 - 1)) [ yes q ↦ absurd (other q) | no q ↦ rw (ne-eqb j (p .0 - 1) q, lt-ltb (v .S (p .0 - 1) (c (p .0 - 1)) j) (v .R j (c j) (p .0 - 1)) more) ]);
-}
-  where
-    offender : Offender (v .n) (v .R (j + 1 - 1) (c (j + 1 - 1))) (sentTo v c (j + 1 - 1)) (p .0)
-    offender = subst (InSet v c (j + 1 - 1)) e h
+-- nobody offends process j's checkpoint in a set
+abbrev pub noneOffends : View → (ℕ → ℕ) → ℕ → Type 0
+noneOffends v c j = lowestOffending (v .n) (v .R j (c j)) (sentTo v c j) ≡ none
 
-    more : v .S (p .0 - 1) (c (p .0 - 1)) j < v .R j (c j) (p .0 - 1)
-    more = subst (λ (i′ : ℕ). v .S (p .0 - 1) (c (p .0 - 1)) i′ < v .R i′ (c i′) (p .0 - 1)) (from-one j) (offender .more)
+-- where no process before j is at fault, and j is with p: the pair shown
+pub pair-shown : {m : ℕ} {v : View} {c : ℕ → ℕ} (j : ℕ) (a : Permission) (p : Process) → IsBook m v → IsSet v c
+    → Before (v .n) (noneOffends v c) j → j < v .n → a ≡ Offends p → a ≡ inSet v c (j + 1 - 1)
+    → AtFault (record { 0 = j + 1 }) p ≡ shownAs (firstFault v c)
+pair-shown {m} {v} {c} j a p book is-set before i e told =
+    let here : a ≡ inSet v c j = subst (λ (k : ℕ). a ≡ inSet v c k) (from-one j) told in
+    let (q, found, named) = partner-named (lowestOffending (v .n) (v .R j (c j)) (sentTo v c j)) p (sym e ∙ here) in
+    let first : firstFault v c ≡ some (j, q) = pair-names-partner m v c j q book is-set .1 (i, found, before .so-far) in
+    ap (λ (x : ℕ). AtFault (record { 0 = x }) p) (add-one j)
+    ∙ ap (λ (x : Process). AtFault (record { 0 = suc j }) x) named
+    ∙ sym (ap shownAs first)
 
-    other : j ≡ p .0 - 1 → ⊥
-    other q =
-        let own : v .R j (c j) (p .0 - 1) ≡ 0 = subst (λ (q′ : ℕ). v .R j (c j) q′ ≡ 0) q (book .own j (c j) i (is-set .some j i) (is-set .among j i) .1) in
-        omega (arith, more)
+-- process j is at fault with nobody
+pub pair-none : (v : View) (c : ℕ → ℕ) (j : ℕ) (a : Permission) → a ≡ Permitted → a ≡ inSet v c (j + 1 - 1) → noneOffends v c j
+pair-none v c j a e told =
+    nobody-named (lowestOffending (v .n) (v .R j (c j)) (sentTo v c j))
+    (sym e ∙ subst (λ (k : ℕ). a ≡ inSet v c k) (from-one j) told)
 
-pub pair-none : (v : View) (c : ℕ → ℕ) (j : ℕ) (a : Permission) → a ≡ Permitted → InSet v c (j + 1 - 1) a
-    → permitted (v .n) (v .R j (c j)) (sentTo v c j) ≡ true
-pair-none v c j a e h =
-    subst (λ (i : ℕ). permitted (v .n) (v .R i (c i)) (sentTo v c i) ≡ true) (from-one j) (subst (InSet v c (j + 1 - 1)) e h)
-
-pub pairs-none : (v : View) (c : ℕ → ℕ) → ((j : ℕ) → j < v .n → permitted (v .n) (v .R j (c j)) (sentTo v c j) ≡ true)
-    → consistent v c ≡ true
-pairs-none v c h = test-is-pairwise v c .1 (permits-consistent v c h)
+-- nobody is
+pub pairs-none : (v : View) (c : ℕ → ℕ) → ((j : ℕ) → j < v .n → noneOffends v c j) → Consistent ≡ shownAs (firstFault v c)
+pairs-none v c h =
+    sym (ap shownAs (no-pair-is-consistent v c .1 (permits-consistent v c (λ j i.
+    none-offends-is-permitted (v .n) (v .R j (c j)) (sentTo v c j) .0 (h j i)))))

@@ -1,8 +1,9 @@
 -- What the functions below the calls are given beside `AcceptedRows`, and what they promise one another: the one for other
 -- crates (`newest_near`), and the private ones.
 use mathlib.Core.Path.{_≡_}
-use mathlib.Core.Bool.{true}
+use mathlib.Core.Bool.{Bool, true, false}
 use mathlib.Core.List.{List}
+use mathlib.Core.Option.{Option, none, some}
 use Prim.Native.Nat.{ℕ, suc, _-_, _≤_, _<_}
 use lib.ListN.{length}
 use Rattle.book.specs.declared.Shape.{Shape}
@@ -12,13 +13,12 @@ use Rattle.book.specs.declared.Count.{Count}
 use Rattle.book.specs.Bounds.{mostProcesses, entries}
 use Rattle.book.specs.View.{count, S, R}
 use Rattle.book.specs.Fits.{Placed}
-use Rattle.line_theory.specs.Sets.{View, consistent}
-use Rattle.line_theory.specs.Search.{sentTo}
-use Rattle.consistency.specs.declared.SetAnswer.{SetAnswer}
-use Rattle.consistency.specs.declared.SetAnswer.the-variants.{Consistent, AtFault, Refused}
+use Rattle.line_theory.specs.Sets.{View}
+use Rattle.line_theory.specs.Search.{lowestOffending, sentTo}
 use Rattle.consistency.specs.declared.Permission.{Permission}
-use Rattle.consistency.specs.Set.{chosen, IsAtFault}
-use Rattle.consistency.specs.Known.{counters, CheckpointTested}
+use Rattle.consistency.specs.declared.Permission.the-variants.{Permitted, Offends}
+use Rattle.consistency.specs.Set.{chosen}
+use Rattle.consistency.specs.Known.{counters}
 
 -- the rows of a book lie in a whole table: of accepted tables, what one who is lent only one of them can ask
 pub record Whole (rows : TableRows) (table : List ℕ) : Type 0 where
@@ -39,12 +39,15 @@ AllNamed shape set = (p : ℕ) → p < shape .n → (1 ≤ chosen set p) × (cho
 abbrev pub AreSentTo : TableRows → List ℕ → List Checkpoint → ℕ → List Count → Type 0
 AreSentTo rows sent set j known = (p : ℕ) → p < rows .shape .n → counters known p ≡ S (rows .shape) sent p (chosen set p) j
 
--- process j's checkpoint in a set, tested against what the others' have sent to it
-abbrev pub InSet : View → (ℕ → ℕ) → ℕ → Permission → Type 0
-InSet v c j permission = CheckpointTested (v .n) (v .R j (c j)) (sentTo v c j) permission
+-- what the test of a row answers: permitted, or the partner that offends, numbered from 1
+abbrev pub permissionOf : Option ℕ → Permission
+permissionOf none = Permitted
+permissionOf (some p) = Offends (record { 0 = suc p })
 
--- the pairs of a set, tested
-abbrev pub Paired : View → (ℕ → ℕ) → SetAnswer → Type 0
-Paired v c Consistent = consistent v c ≡ true
-Paired v c (AtFault j p) = IsAtFault v c (j .0) (p .0)
-Paired v c (Refused question) = ⊥
+abbrev pub isPermitted : Permission → Bool
+isPermitted Permitted = true
+isPermitted (Offends p) = false
+
+-- process j's checkpoint in a set, tested against what the others' have sent to it
+abbrev pub inSet : View → (ℕ → ℕ) → ℕ → Permission
+inSet v c j = permissionOf (lowestOffending (v .n) (v .R j (c j)) (sentTo v c j))

@@ -1,8 +1,8 @@
 -- Document 01, "The line": a set named in a call, and the answer to a test of it.
-use mathlib.Core.Path.{_≡_}
 use mathlib.Core.Bool.{Bool, true, false, _&&_}
 use mathlib.Core.List.{List}
-use Prim.Native.Nat.{ℕ, _-_, _≤_}
+use mathlib.Core.Option.{Option, none, some}
+use Prim.Native.Nat.{ℕ, zero, suc}
 use lib.ListN.{getD}
 use lib.Dec.{ltb, leb, eqb}
 use Rattle.book.specs.Lent.{Tables}
@@ -13,7 +13,7 @@ use Rattle.book.specs.View as view
 use Rattle.book.specs.InTurn.{_then_, ask}
 use Rattle.book.specs.Check.{tablesQuestion}
 use Rattle.lists.specs.Over.{allTo}
-use Rattle.line_theory.specs.Sets.{View, atFault, consistent}
+use Rattle.line_theory.specs.Sets.{firstFault}
 use Rattle.line_theory.specs.OfTables.{viewOf}
 use Rattle.consistency.specs.declared.SetAnswer.{SetAnswer}
 use Rattle.consistency.specs.declared.SetAnswer.the-variants.{Consistent, AtFault, Refused}
@@ -35,14 +35,16 @@ allThere shape set = allTo mostProcesses (λ j. isThere (ltb j (shape .n)) (view
 unfoldable pub testQuestion : Tables → List Checkpoint → ℕ
 testQuestion tables set = tablesQuestion tables then λ _. ask 12 (allThere (tables .shape) set)
 
--- a pair (j, p) of a book, numbered from 1 as a caller names it, is at fault in a set
-pub record IsAtFault (v : View) (c : ℕ → ℕ) (j p : ℕ) : Type 0 where
-  pub first : (1 ≤ j) × (j ≤ v .n)
-  pub second : (1 ≤ p) × (p ≤ v .n)
-  pub fault : atFault v c (j - 1) (p - 1) ≡ true
+-- "A test that says no shows a pair (j, p) at fault": its processes are numbered from 1, as a caller names them
+abbrev pub shownAs : Option (ℕ × ℕ) → SetAnswer
+shownAs none = Consistent
+shownAs (some pair) = AtFault (record { 0 = suc (pair .0) }) (record { 0 = suc (pair .1) })
 
--- What holds of each answer to a test. Which pair at fault is shown is left free, where there are several.
-abbrev pub Tested : Tables → List Checkpoint → SetAnswer → Type 0
-Tested tables set Consistent = (testQuestion tables set ≡ 0) × (consistent (viewOf tables) (chosen set) ≡ true)
-Tested tables set (AtFault j p) = (testQuestion tables set ≡ 0) × IsAtFault (viewOf tables) (chosen set) (j .0) (p .0)
-Tested tables set (Refused question) = (testQuestion tables set ≡ question) × (question ≡ 0 → ⊥)
+-- unless a question refuses
+abbrev pub shownOr : ℕ → Option (ℕ × ℕ) → SetAnswer
+shownOr zero pair = shownAs pair
+shownOr (suc question) pair = Refused (suc question)
+
+-- the answer to a test of a set: the first pair at fault
+unfoldable pub answerToTest : Tables → List Checkpoint → SetAnswer
+answerToTest tables set = shownOr (testQuestion tables set) (firstFault (viewOf tables) (chosen set))

@@ -1,5 +1,5 @@
-// Document 01, "The line": testing a named set of checkpoints; and what every search needs: testing one checkpoint against
-// known sent counters, and the newest that they permit.
+// Document 01, "The line", and 02, E3: testing a named set of checkpoints, and one checkpoint against known sent counters; and
+// what every search needs: the newest checkpoint that they permit.
 use book::Checkpoint;
 use book::Count;
 use book::Counter;
@@ -11,19 +11,29 @@ ghost use Prim.Native.Nat.{_-_, _≤_};
 ghost use Rattle.book.specs.Lent.{lent};
 ghost use Rattle.book.specs.View.{count, R};
 ghost use Rattle.book.specs.Accepted.{AcceptedRows, IsProcess};
-ghost use Rattle.line_theory.specs.Search.{newest};
+ghost use Rattle.line_theory.specs.Sets.{firstFault};
+ghost use Rattle.line_theory.specs.Search.{lowestOffending, newest};
 ghost use Rattle.line_theory.specs.OfTables.{viewOf};
-ghost use Rattle.consistency.specs.Set.{chosen, isThere, allThere, Tested};
-ghost use Rattle.consistency.specs.Known.{counters, isPermitted, CheckpointTested};
-ghost use Rattle.consistency.specs.Given.{Whole, Rises, AllNamed, AreSentTo, InSet, Paired};
+ghost use Rattle.consistency.specs.Set.{chosen, isThere, allThere, shownAs, answerToTest};
+ghost use Rattle.consistency.specs.Known.{counters, columnQuestion, answerToColumn};
+ghost use Rattle.consistency.specs.Given.{Whole, Rises, AllNamed, AreSentTo, permissionOf, isPermitted, inSet};
 
-// One checkpoint against known sent counters: none of its received counters is higher, or that of this partner is.
+// One checkpoint against known sent counters: none of its received counters is higher, or this is the lowest partner of
+// whom one is.
 pub enum Permission {
     Permitted,
     Offends(Process),
 }
 
-// The answer to a test of a set: a pair (j, p) is at fault when j's checkpoint received more from p than p's sent to j.
+// The answer of the call that tests one checkpoint.
+pub enum CheckpointAnswer {
+    Permitted,
+    Offends(Process),
+    Refused(u32),
+}
+
+// The answer to a test of a set: a pair (j, p) is at fault when j's checkpoint received more from p than p's sent to j. The
+// one shown has the lowest j, and for it the lowest p.
 pub enum SetAnswer {
     Consistent,
     AtFault(Process, Process),
@@ -31,7 +41,7 @@ pub enum SetAnswer {
 }
 
 // Are the received counters of process j's checkpoint r at most the known sent counters? The mark is above every counter.
-fn test_checkpoint(
+fn test_row(
     rows: TableRows,
     received: &[Counter],
     j: Process,
@@ -40,7 +50,7 @@ fn test_checkpoint(
 ) -> Permission
     requires { ⌜ Whole rows (now received) × IsProcess rows (j .0) ⌝ }
     requires { ⌜ (1 ≤ r .0) × (r .0 ≤ count (rows .shape) (j .0 - 1)) ⌝ }
-    ensures { λ a. ⌜ CheckpointTested (rows .shape .n) (λ p. R (rows .shape) (now (received .entry)) (j .0 - 1) (r .0) p) (counters known) a ⌝ }
+    ensures { λ a. ⌜ a ≡ permissionOf (lowestOffending (rows .shape .n) (λ p. R (rows .shape) (now (received .entry)) (j .0 - 1) (r .0) p) (counters known)) ⌝ }
 {
     let shape = rows.shape;
     let n = shape.n;
@@ -74,7 +84,7 @@ fn newest_permitted(
 {
     let mut r = from.0;
     while 0 < r {
-        if is_permitted(test_checkpoint(rows, received, j, Checkpoint(r), known)) {
+        if is_permitted(test_row(rows, received, j, Checkpoint(r), known)) {
             return Checkpoint(r);
         }
         r -= 1;
@@ -116,7 +126,7 @@ fn upwards(
     let count = counts[place];
     let mut last = from.0;
     while last < count {
-        if !is_permitted(test_checkpoint(rows, received, j, Checkpoint(last + 1), known)) {
+        if !is_permitted(test_row(rows, received, j, Checkpoint(last + 1), known)) {
             return Checkpoint(last);
         }
         last += 1;
@@ -185,12 +195,12 @@ fn test_in_set(
 ) -> Permission
     requires { ⌜ AcceptedRows rows (now sent) (now received) × IsProcess rows (j .0) ⌝ }
     requires { ⌜ AllNamed (rows .shape) set ⌝ }
-    ensures { λ a. ⌜ InSet (viewOf (lent (rows .shape) (now (sent .entry)) (now (received .entry)))) (chosen set) (j .0 - 1) a ⌝ }
+    ensures { λ a. ⌜ a ≡ inSet (viewOf (lent (rows .shape) (now (sent .entry)) (now (received .entry)))) (chosen set) (j .0 - 1) ⌝ }
 {
     let known = sent_to(rows, sent, set, j);
     let i = j.0 - 1;
     let r = set[i];
-    test_checkpoint(rows, received, j, r, known)
+    test_row(rows, received, j, r, known)
 }
 
 // Does each named checkpoint exist (question 12)? Absent processes have 0.
@@ -223,7 +233,7 @@ fn is_there(present: bool, count: usize, r: Checkpoint) -> bool
     r.0 <= count
 }
 
-// A pair at fault in a set, if there is one.
+// The first pair at fault in a set, if there is one: processes are tested in turn, and each names its lowest partner.
 fn test_pairs(
     rows: TableRows,
     sent: &[Counter],
@@ -231,7 +241,7 @@ fn test_pairs(
     set: [Checkpoint; 16],
 ) -> SetAnswer
     requires { ⌜ AcceptedRows rows (now sent) (now received) × AllNamed (rows .shape) set ⌝ }
-    ensures { λ a. ⌜ Paired (viewOf (lent (rows .shape) (now (sent .entry)) (now (received .entry)))) (chosen set) a ⌝ }
+    ensures { λ a. ⌜ a ≡ shownAs (firstFault (viewOf (lent (rows .shape) (now (sent .entry)) (now (received .entry)))) (chosen set)) ⌝ }
 {
     let shape = rows.shape;
     let n = shape.n;
@@ -246,14 +256,14 @@ fn test_pairs(
     SetAnswer::Consistent
 }
 
-// Is a named set consistent? The tables' questions come first, then 12.
+// Is a named set consistent, and if not, which is the first pair at fault? The tables' questions come first, then 12.
 pub fn test_set(
     shape: Shape,
     sent: &[Counter],
     received: &[Counter],
     set: [Checkpoint; 16],
 ) -> SetAnswer
-    ensures { λ a. ⌜ Tested (lent shape (now (sent .entry)) (now (received .entry))) set a ⌝ }
+    ensures { λ a. ⌜ a ≡ answerToTest (lent shape (now (sent .entry)) (now (received .entry))) set ⌝ }
 {
     let question = tables::question(shape, sent, received);
     if question != 0 {
@@ -265,4 +275,53 @@ pub fn test_set(
     }
     let rows = book::rows_of(shape);
     test_pairs(rows, sent, received, set)
+}
+
+// The first question that a test of one checkpoint fails: of the tables, then 10 and 12; 0 for none.
+fn column_question(
+    shape: Shape,
+    sent: &[Counter],
+    received: &[Counter],
+    j: Process,
+    r: Checkpoint,
+) -> u32
+    ensures { λ question. ⌜ question ≡ columnQuestion (lent shape (now (sent .entry)) (now (received .entry))) (j .0) (r .0) ⌝ }
+{
+    let question = tables::question(shape, sent, received);
+    if question != 0 {
+        return question;
+    }
+    if !book::is_named(shape.n, j.0) {
+        return 10;
+    }
+    let counts = shape.counts;
+    let place = j.0 - 1;
+    if !is_there(true, counts[place], r) {
+        return 12;
+    }
+    0
+}
+
+// Has process j's checkpoint r received more than is known to be sent to it, and if so, from which partner first? The mark
+// for "not known" permits everything. The tables' questions come first, then 10 and 12.
+pub fn test_checkpoint(
+    shape: Shape,
+    sent: &[Counter],
+    received: &[Counter],
+    j: Process,
+    r: Checkpoint,
+    known: [Count; 16],
+) -> CheckpointAnswer
+    ensures { λ a. ⌜ a ≡ answerToColumn (lent shape (now (sent .entry)) (now (received .entry))) (j .0) (r .0) known ⌝ }
+{
+    let question = column_question(shape, sent, received, j, r);
+    if question != 0 {
+        return CheckpointAnswer::Refused(question);
+    }
+    let rows = book::rows_of(shape);
+    let permission = test_row(rows, received, j, r, known);
+    match permission {
+        Permission::Permitted => CheckpointAnswer::Permitted,
+        Permission::Offends(p) => CheckpointAnswer::Offends(p),
+    }
 }

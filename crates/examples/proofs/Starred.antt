@@ -2,23 +2,13 @@
 -- Assumes nothing.
 use mathlib.Core.Path.{refl}
 use mathlib.Core.List.{[], _∷_}
-use native.Mathlib.Omega.{arith}
-use Rattle.book.specs.Read.{tablesRead}
 use Rattle.shown.specs.Shown as shown
 use Rattle.restart.specs.Plan as plan
 use Rattle.restart.specs.Calls as calls
-use Rattle.session_examples.specs.Books.{blank, setOf, k1, k6}
+use Rattle.session_examples.specs.Books.{k6}
 use Rattle.session_examples.proofs.Computing.{computing}
-use Rattle.examples.specs.Starred.{Starred, NotConsistent, MovedTo, holds, _also_, none}
-use Rattle.examples.proofs.Pairs.{noOther, only-answer}
+use Rattle.examples.specs.Starred.{Starred, MovedTo, holds, _also_, none}
 use Rattle.session_examples.proofs.Sessions.{alone, two-by-1, two-by-2, k1-by-1, k1-by-2, k6-by-2}
-
-not-consistent : holds (NotConsistent k1 (2 ∷ 2 ∷ 2 ∷ []) 1 2)
-unfolding computing noOther
-not-consistent = (
-  (refl, record { first = (omega arith, omega arith); second = (omega arith, omega arith); fault = refl }),
-  only-answer (tablesRead k1 blank blank) (setOf (2 ∷ 2 ∷ 2 ∷ [])) 0 1 refl refl refl,
-)
 
 k6-moved : holds (MovedTo k6 1 (3 ∷ 4 ∷ 1 ∷ []))
 unfolding computing shown.bookShown plan.planned plan.applied calls.moveQuestion calls.bookMoved calls.shapeMoved
@@ -40,7 +30,7 @@ starred-hold =
     also refl
     also refl
     also refl
-    also not-consistent
+    also refl
     also refl
     also k1-by-1
     also k1-by-2

@@ -19,7 +19,7 @@ use Rattle.book.specs.Check.{tablesQuestion}
 use Rattle.book.specs.Read.{noShape, readQuestion, shapeRead, sentRead, receivedRead, tablesRead}
 use Rattle.consistency.specs.declared.SetAnswer.{SetAnswer}
 use Rattle.consistency.specs.declared.SetAnswer.the-variants as test
-use Rattle.consistency.specs.Set.{Tested}
+use Rattle.consistency.specs.Set.{answerToTest}
 use Rattle.finder.specs.Line.{lineFound, passedFound}
 use Rattle.restart.specs.Calls.{moveQuestion, shapeMoved}
 use Rattle.session_examples.specs.Books.{blank, setOf, k1, k6, laterCounter, largestCounter}
@@ -40,7 +40,7 @@ pub data Example : Type 0 where
   AcceptedAs : List ℕ → ℕ → List ℕ → Example
   -- in a book, process j's checkpoint r has sent partner p so many messages, or received so many from it
   HasSent HasReceived : List ℕ → ℕ → ℕ → ℕ → ℕ → Example
-  -- in a book, a set is not consistent, and this pair alone can be shown
+  -- in a book, a set is not consistent, and this pair is shown
   NotConsistent : List ℕ → List ℕ → ℕ → ℕ → Example
   -- in a book, this line is found, with T
   HasLine : List ℕ → List ℕ → ℕ → Example
@@ -53,9 +53,9 @@ pub data Example : Type 0 where
 abbrev pub answered : List ℕ → Answer × Shape
 answered book = (answerTo (readQuestion book blank blank), shapeRead book blank blank)
 
--- what holds of an answer to a test of a set, in the tables of a book
-abbrev pub answers : List ℕ → List ℕ → SetAnswer → Type 0
-answers book set answer = Tested (tablesRead book blank blank) (setOf set) answer
+-- what a test of a set answers in the tables of a book
+abbrev pub tested : List ℕ → List ℕ → SetAnswer
+tested book set = answerToTest (tablesRead book blank blank) (setOf set)
 
 -- what a search for the line answers in the tables of a book, with the line and T beside it
 abbrev pub found : List ℕ → Answer × List Checkpoint × ℕ
@@ -77,9 +77,7 @@ holds (RefusedBy book question) = answered book ≡ (answer.Refused question, no
 holds (AcceptedAs book n counts) = answered book ≡ (answer.Accepted, record { n = n; counts = padded mostProcesses counts })
 holds (HasSent book j r p v) = S (shapeRead book blank blank) (sentRead book blank blank) (j - 1) r (p - 1) ≡ v
 holds (HasReceived book j r p v) = R (shapeRead book blank blank) (receivedRead book blank blank) (j - 1) r (p - 1) ≡ v
-holds (NotConsistent book set j p) =
-    let shown : SetAnswer = test.AtFault (record { 0 = j }) (record { 0 = p }) in
-    answers book set shown × ((answer : SetAnswer) → answers book set answer → answer ≡ shown)
+holds (NotConsistent book set j p) = tested book set ≡ test.AtFault (record { 0 = j }) (record { 0 = p })
 holds (HasLine book line passed) = found book ≡ (answer.Accepted, setOf line, passed)
 holds (Searched book initiator line rounds messages) =
     searchedIn book initiator ≡ endedOn line rounds messages

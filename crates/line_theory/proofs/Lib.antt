@@ -1,4 +1,5 @@
 pub mod Tests
+pub mod Faults
 pub mod Steps
 pub mod Line
 pub mod StepsBack

@@ -1,56 +1,15 @@
--- The tests of a set: the computed one says what the pairwise one says, and so do the received counters that the others'
--- sent counters permit.
+-- What known counters permit, and that a set is consistent where the others' sent counters permit each of its checkpoints.
 use mathlib.Core.Path.{_≡_}
-use mathlib.Core.Bool.{Bool, true, false, not}
+use mathlib.Core.Bool.{true, false}
 use Prim.Native.Nat.{ℕ, _≤_, _<_}
 use native.Mathlib.Decide.{ℕ-discrete}
 use native.Mathlib.Omega.{arith}
-use borrow.Author.Tests.{ltb-false, le-ltb, leb-true, le-leb, leb-false, lt-leb, eq-eqb, ne-eqb, not-true, not-false}
+use borrow.Author.Tests.{leb-true, le-leb, leb-false, lt-leb}
 use lib.Dec.{leb}
-use Rattle.lists.specs.Over.{allTo}
-use Rattle.line_theory.specs.Sets.{View, IsBook, IsSet, Consistent, receivedMore, atFault, consistent}
+use Rattle.line_theory.specs.Sets.{View, IsBook, IsSet, Consistent}
 use Rattle.line_theory.specs.Search.{permitted, sentTo}
-use Rattle.line_theory.specs.Statements.{TestIsPairwise, NoHasPair, PermittedIsConsistent}
+use Rattle.line_theory.specs.Statements.{PermittedIsConsistent}
 use Rattle.lists.proofs.Over.{all-in, all-out, all-not, all-witness}
-
--- ---- the computed test
-
-module _ (v : View) (c : ℕ → ℕ) where
-  abbrev fine : ℕ → ℕ → Bool
-  fine j p = not (atFault v c j p)
-
-  abbrev allFine : ℕ → Bool
-  allFine j = allTo (v .n) (fine j)
-
-  fine-at-most : (j p : ℕ) → fine j p ≡ true → (j ≡ p → ⊥) → v .R j (c j) p ≤ v .S p (c p) j
-  fine-at-most j p h other =
-      let k : not (receivedMore v c j p) ≡ true = rw (ne-eqb j p other) at h in
-      ltb-false (v .S p (c p) j) (v .R j (c j) p) (not-true (receivedMore v c j p) k)
-
-  consistent-fine : Consistent v c → (j p : ℕ) → j < v .n → p < v .n → fine j p ≡ true
-  consistent-fine h j p m n = elim (ℕ-discrete j p) [
-    | yes e ↦ rw (eq-eqb j p e)
-    | no e ↦ rw (ne-eqb j p e, le-ltb (v .S p (c p) j) (v .R j (c j) p) (h j p m n e))
-  ]
-
-pub test-is-pairwise : TestIsPairwise
-unfolding consistent
-test-is-pairwise v c = (
-  λ h j p m n. fine-at-most v c j p (all-in (v .n) (fine v c j) (all-in (v .n) (allFine v c) h j m) p n),
-  λ h. all-out (v .n) (allFine v c) (λ j m. all-out (v .n) (fine v c j) (λ p n. consistent-fine v c h j p m n)),
-)
-
-pub no-has-pair : NoHasPair
-unfolding consistent
-no-has-pair v c = (
-  λ h.
-      let a = all-witness (v .n) (allFine v c) h in
-      let b = all-witness (v .n) (fine v c (a .0)) (a .2) in
-      (a .0, b .0, a .1, b .1, not-false (atFault v c (a .0) (b .0)) (b .2)),
-  λ w. all-not (v .n) (allFine v c) (w .0) (w .2) (all-not (v .n) (fine v c (w .0)) (w .1) (w .3) (rw (w .4))),
-)
-
--- ---- what known counters permit
 
 module _ (n : ℕ) (row known : ℕ → ℕ) where
   pub permitted-in : permitted n row known ≡ true → (p : ℕ) → p < n → row p ≤ known p

@@ -1,8 +1,13 @@
 -- The statements of `specs/Statements.antt` hold.
 -- Assumes nothing.
 use Rattle.line_theory.specs.Statements.{
-  TestIsPairwise,
-  NoHasPair,
+  PairIsFirst,
+  NoPairIsConsistent,
+  PartnerIsLowest,
+  NoneOffendsIsPermitted,
+  PartnerIsOther,
+  PartnerIsKnown,
+  PairNamesPartner,
   LineIsLine,
   OnlyLine,
   CutIsBook,
@@ -19,15 +24,31 @@ use Rattle.line_theory.specs.Statements.{
   AcceptedIsBook,
 }
 use Rattle.line_theory.proofs.Tests
+use Rattle.line_theory.proofs.Faults
 use Rattle.line_theory.proofs.Steps
 use Rattle.line_theory.proofs.Line
 use Rattle.line_theory.proofs.Accepted.{accepted-book}
 
-pub test-is-pairwise : TestIsPairwise
-test-is-pairwise = Tests.test-is-pairwise
+pub pair-is-first : PairIsFirst
+pair-is-first = Faults.pair-is-first
 
-pub no-has-pair : NoHasPair
-no-has-pair = Tests.no-has-pair
+pub no-pair-is-consistent : NoPairIsConsistent
+no-pair-is-consistent = Faults.no-pair-is-consistent
+
+pub partner-is-lowest : PartnerIsLowest
+partner-is-lowest = Faults.partner-is-lowest
+
+pub none-offends-is-permitted : NoneOffendsIsPermitted
+none-offends-is-permitted = Faults.none-offends-is-permitted
+
+pub pair-names-partner : PairNamesPartner
+pair-names-partner = Faults.pair-names-partner
+
+pub partner-is-other : PartnerIsOther
+partner-is-other = Faults.partner-is-other
+
+pub partner-is-known : PartnerIsKnown
+partner-is-known = Faults.partner-is-known
 
 pub line-is-line : LineIsLine
 line-is-line = Line.line-is-line

@@ -3,10 +3,11 @@
 -- (`LineIsLine`).
 use mathlib.Core.Bool.{Bool}
 use mathlib.Core.List.{List}
+use mathlib.Core.Option.{Option}
 use Prim.Native.Nat.{ℕ, zero, suc}
 use lib.ListN.{getD}
-use lib.Dec.{leb}
-use Rattle.lists.specs.Over.{allTo, sumTo, tab, lastTo}
+use lib.Dec.{ltb, leb}
+use Rattle.lists.specs.Over.{allTo, sumTo, tab, lastTo, lowest}
 use Rattle.line_theory.specs.Sets.{View, newerThan}
 
 -- Document 01, "A search": a checkpoint "whose received counters are at most the known sent counters". `row p` is what
@@ -15,6 +16,12 @@ use Rattle.line_theory.specs.Sets.{View, newerThan}
 -- permits.
 unfoldable pub permitted : ℕ → (ℕ → ℕ) → (ℕ → ℕ) → Bool
 permitted n row known = allTo n (λ p. leb (row p) (known p))
+
+-- Document 02, E3: the test "names its lowest offending partner", from which the checkpoint received more than is known to be
+-- sent; none where there is none, which is where it is permitted (`NoneOffendsIsPermitted`). The own column is asked too, as
+-- above.
+abbrev pub lowestOffending : ℕ → (ℕ → ℕ) → (ℕ → ℕ) → Option ℕ
+lowestOffending n row known = lowest n (λ p. ltb (known p) (row p))
 
 -- "its newest checkpoint" of these, from checkpoint r back; `rows` are the received counters of its checkpoints. 0 for
 -- none; in a book there is one (`NewestIsNewest`).

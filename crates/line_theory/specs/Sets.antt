@@ -1,10 +1,11 @@
--- Document 01, "The line", for a book of any number of processes: consistent sets, the line, and T. Processes count from
--- 0, below n; checkpoints from 1, the oldest.
+-- Document 01, "The line", for a book of any number of processes: consistent sets, the first pair at fault, the line, and
+-- T. Processes count from 0, below n; checkpoints from 1, the oldest.
 use mathlib.Core.Path.{_≡_}
 use mathlib.Core.Bool.{Bool, _&&_, not}
+use mathlib.Core.Option.{Option}
 use Prim.Native.Nat.{ℕ, suc, _-_, _≤_, _<_}
 use lib.Dec.{ltb, eqb}
-use Rattle.lists.specs.Over.{allTo, sumTo}
+use Rattle.lists.specs.Over.{sumTo, lowestPair}
 
 -- A book as K 2.2 sees it: process j has `count j` checkpoints, and its checkpoint r had sent partner p so many messages
 -- (S) and received so many from it (R).
@@ -38,13 +39,13 @@ Consistent v c = (j p : ℕ) → j < v .n → p < v .n → (j ≡ p → ⊥) →
 abbrev pub receivedMore : View → (ℕ → ℕ) → ℕ → ℕ → Bool
 receivedMore v c j p = ltb (v .S p (c p) j) (v .R j (c j) p)
 
--- The pair (j, p) is at fault: they are two processes, and j's checkpoint received more from p than p's sent to j.
+-- The pair (j, p) is at fault: they differ, and j's checkpoint received more from p than p's sent to j.
 abbrev pub atFault : View → (ℕ → ℕ) → ℕ → ℕ → Bool
 atFault v c j p = not (eqb j p) && receivedMore v c j p
 
--- the same test, to be computed
-unfoldable pub consistent : View → (ℕ → ℕ) → Bool
-consistent v c = allTo (v .n) (λ j. allTo (v .n) (λ p. not (atFault v c j p)))
+-- Document 02, E3: "The pair shown is now the lowest j, and for it the lowest p." None where no pair is at fault.
+abbrev pub firstFault : View → (ℕ → ℕ) → Option (ℕ × ℕ)
+firstFault v c = lowestPair (v .n) (atFault v c)
 
 -- "The line is the consistent set that is nowhere earlier than any other consistent set."
 pub record IsLine (v : View) (c : ℕ → ℕ) : Type 0 where

@@ -3,24 +3,74 @@
 use mathlib.Core.Path.{_≡_}
 use mathlib.Core.Bool.{true, false}
 use mathlib.Core.Logic.{_↔_}
+use mathlib.Core.Option.{none, some}
 use Prim.Native.Nat.{ℕ, _+_, _≤_, _<_}
 use Rattle.book.specs.Bounds.{mark}
 use Rattle.book.specs.Lent.{Tables}
 use Rattle.book.specs.Accepted.{AreAccepted}
 use Rattle.lists.specs.Over.{sumTo}
-use Rattle.line_theory.specs.Sets.{View, IsBook, IsSet, Consistent, atFault, consistent, IsLine, newerThan, cut}
-use Rattle.line_theory.specs.Search.{permitted, newest, sentTo, line}
+use Rattle.line_theory.specs.Sets.{View, IsBook, IsSet, Consistent, atFault, firstFault, IsLine, newerThan, cut}
+use Rattle.line_theory.specs.Search.{permitted, lowestOffending, newest, sentTo, line}
 use Rattle.line_theory.specs.OfTables.{viewOf}
 
+-- ---- the first pair at fault (document 02, E3)
+
+-- a pair that is at fault, while no pair before it is: none of a lower j, and of its own j none of a lower p
+pub record IsFirstFault (v : View) (c : ℕ → ℕ) (j p : ℕ) : Type 0 where
+  pub first : j < v .n
+  pub second : p < v .n
+  pub fault : atFault v c j p ≡ true
+  pub lower-j : (i q : ℕ) → i < j → q < v .n → atFault v c i q ≡ false
+  pub lower-p : (q : ℕ) → q < p → atFault v c j q ≡ false
+
+-- The pair shown is the first at fault, and the first at fault is shown.
+abbrev pub PairIsFirst : Type 0
+PairIsFirst = (v : View) (c : ℕ → ℕ) (j p : ℕ) → firstFault v c ≡ some (j, p) ↔ IsFirstFault v c j p
+
+-- None is shown exactly when the set is consistent.
+abbrev pub NoPairIsConsistent : Type 0
+NoPairIsConsistent = (v : View) (c : ℕ → ℕ) → firstFault v c ≡ none ↔ Consistent v c
+
+-- a partner from which more was received than is known to be sent; of no lower one is that so
+pub record IsLowestOffending (n : ℕ) (row known : ℕ → ℕ) (p : ℕ) : Type 0 where
+  pub partner : p < n
+  pub more : known p < row p
+  pub lower : (q : ℕ) → q < p → row q ≤ known q
+
+-- The partner named is the lowest that offends, and the lowest that offends is named.
+abbrev pub PartnerIsLowest : Type 0
+PartnerIsLowest =
+    (n : ℕ) (row known : ℕ → ℕ) (p : ℕ) → lowestOffending n row known ≡ some p ↔ IsLowestOffending n row known p
+
+-- None is named exactly when there is none: when the checkpoint is permitted.
+abbrev pub NoneOffendsIsPermitted : Type 0
+NoneOffendsIsPermitted = (n : ℕ) (row known : ℕ → ℕ) → lowestOffending n row known ≡ none ↔ permitted n row known ≡ true
+
+-- In a book it is another process: a checkpoint has received nothing from its own.
+abbrev pub PartnerIsOther : Type 0
+PartnerIsOther =
+    (m : ℕ) (v : View) (j r p : ℕ) (known : ℕ → ℕ) → IsBook m v → j < v .n → 1 ≤ r → r ≤ v .count j
+    → lowestOffending (v .n) (v .R j r) known ≡ some p → p ≡ j → ⊥
+
+-- "Not known" permits everything: what the partner named has sent is known.
+abbrev pub PartnerIsKnown : Type 0
+PartnerIsKnown =
+    (m : ℕ) (v : View) (j r p : ℕ) (known : ℕ → ℕ) → IsBook m v → j < v .n → 1 ≤ r → r ≤ v .count j
+    → lowestOffending (v .n) (v .R j r) known ≡ some p → known p < m
+
+-- A set is tested checkpoint by checkpoint, each against what the others' have sent to it: the first pair at fault is the
+-- first process for which a partner is named, and that partner.
+abbrev pub PairNamesPartner : Type 0
+PairNamesPartner =
+    (m : ℕ) (v : View) (c : ℕ → ℕ) (j p : ℕ) → IsBook m v → IsSet v c
+    → firstFault v c ≡ some (j, p)
+    ↔ (
+    (j < v .n)
+    × (lowestOffending (v .n) (v .R j (c j)) (sentTo v c j) ≡ some p)
+    × ((i : ℕ) → i < j → lowestOffending (v .n) (v .R i (c i)) (sentTo v c i) ≡ none)
+    )
+
 -- ---- the line
-
--- The computed test is the pairwise test.
-abbrev pub TestIsPairwise : Type 0
-TestIsPairwise = (v : View) (c : ℕ → ℕ) → consistent v c ≡ true ↔ Consistent v c
-
--- It says no exactly when some pair is at fault.
-abbrev pub NoHasPair : Type 0
-NoHasPair = (v : View) (c : ℕ → ℕ) → consistent v c ≡ false ↔ ((j p : ℕ) × (j < v .n) × (p < v .n) × (atFault v c j p ≡ true))
 
 -- The line that is computed is a consistent set of the book, and nowhere earlier than any other.
 abbrev pub LineIsLine : Type 0

@@ -1,2 +1,2 @@
-pub mod Over
 pub mod Pick
+pub mod Over

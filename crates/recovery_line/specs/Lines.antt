@@ -1,18 +1,19 @@
--- The exported calls on sets and the line: test a set, find the line.
-use mathlib.Core.Path.{_≡_}
-use mathlib.Core.Bool.{Bool, true, false, _&&_}
-use mathlib.Core.List.{List, [], _∷_}
+-- The exported calls on sets and the line: test a set, test one checkpoint, find the line.
+use mathlib.Core.Bool.{_&&_}
+use mathlib.Core.List.{List}
 use Prim.Native.Nat.{ℕ}
-use lib.ListN.{length}
 use Rattle.book.specs.Lent.{lent}
+use Rattle.book.specs.Bounds.{mostProcesses}
 use Rattle.book.specs.InTurn.{_then_, ask, unlessRefused}
 use Rattle.book.specs.Check.{tablesQuestion}
-use Rattle.line_theory.specs.Sets as sets
+use Rattle.lists.specs.Over.{numbered}
+use Rattle.line_theory.specs.Sets.{firstFault}
 use Rattle.line_theory.specs.OfTables.{viewOf}
-use Rattle.consistency.specs.Set.{chosen, testQuestion, IsAtFault}
+use Rattle.consistency.specs.Set.{chosen, testQuestion}
+use Rattle.consistency.specs.Known.{counters, columnQuestion, offending}
 use Rattle.finder.specs.Line.{lineFound, passedFound}
-use Rattle.words.specs.Words.{shapeLength, setLength, pairLength, wrongLength, isLong, word}
-use Rattle.words.specs.Plain.{shapeIn, setIn, setWords}
+use Rattle.words.specs.Words.{shapeLength, setLength, pairLength, wrongLength, isLong}
+use Rattle.words.specs.Plain.{shapeIn, setIn, setWords, pairWords, countsIn}
 
 -- ---- test a set
 
@@ -22,16 +23,25 @@ module _ (shape sent received set pair : List ℕ) where
       ask wrongLength (isLong shapeLength shape && (isLong setLength set && isLong pairLength pair))
       then λ _. testQuestion (lent (shapeIn shape) sent received) (setIn set)
 
-  abbrev pub isConsistent : Bool
-  isConsistent = sets.consistent (viewOf (lent (shapeIn shape) sent received)) (chosen (setIn set))
+  -- the first pair at fault; zeros where the set is consistent
+  unfoldable pub testPair : List ℕ
+  testPair =
+      unlessRefused testAnswer pair
+      (pairWords (firstFault (viewOf (lent (shapeIn shape) sent received)) (chosen (setIn set))))
 
-  -- What holds of the pair afterwards. Which pair at fault is shown is left free, where there are several.
-  pub record PairShown (after : List ℕ) : Type 0 where
-    pub when-refused : (testAnswer ≡ 0 → ⊥) → after ≡ pair
-    pub when-consistent : testAnswer ≡ 0 → isConsistent ≡ true → after ≡ (0 ∷ (0 ∷ []))
-    pub when-not : testAnswer ≡ 0 → isConsistent ≡ false
-        → (length after ≡ pairLength)
-        × IsAtFault (viewOf (lent (shapeIn shape) sent received)) (chosen (setIn set)) (word after 0) (word after 1)
+-- ---- test one checkpoint
+
+module _ (shape sent received : List ℕ) (process checkpoint : ℕ) (known : List ℕ) where
+  unfoldable pub columnAnswer : ℕ
+  columnAnswer =
+      ask wrongLength (isLong shapeLength shape && isLong mostProcesses known)
+      then λ _. columnQuestion (lent (shapeIn shape) sent received) process checkpoint
+
+  -- the lowest partner that offends; 0 for none
+  unfoldable pub columnPartner : ℕ → ℕ
+  columnPartner before =
+      unlessRefused columnAnswer before
+      (numbered (offending (lent (shapeIn shape) sent received) process checkpoint (counters (countsIn known))))
 
 -- ---- find the line
 

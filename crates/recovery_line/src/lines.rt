@@ -1,12 +1,15 @@
-// Sets and the line: test a set, find the line.
+// Sets and the line: test a set, test one checkpoint, find the line.
+use book::Checkpoint;
 use book::Counter;
+use book::Process;
+use consistency::CheckpointAnswer;
 use consistency::SetAnswer;
 use words::layout;
 ghost use mathlib.Core.Path.{_≡_};
 ghost use mathlib.Core.List.{[], _∷_};
 ghost use lib.ListN.{length};
 ghost use Rattle.words.specs.Words.{pairLength};
-ghost use Rattle.recovery_line.specs.Lines.{testAnswer, PairShown, findAnswer, findLine, findPassed};
+ghost use Rattle.recovery_line.specs.Lines.{testAnswer, testPair, columnAnswer, columnPartner, findAnswer, findLine, findPassed};
 
 // A pair of processes, to a slice of its length.
 fn put_pair(j: usize, p: usize, pair: &mut [u64])
@@ -17,7 +20,7 @@ fn put_pair(j: usize, p: usize, pair: &mut [u64])
     pair[1] = words::of_number(p);
 }
 
-// Is a set consistent? A pair at fault, or zeros.
+// Is a set consistent? The first pair at fault, or zeros.
 #[no_mangle]
 pub extern "C" fn recovery_line_test_set(
     shape: &[u64],
@@ -27,7 +30,7 @@ pub extern "C" fn recovery_line_test_set(
     pair: &mut [u64],
 ) -> u32
     ensures { λ r. ⌜ r ≡ testAnswer (now (shape .entry)) (now (sent .entry)) (now (received .entry)) (now (set .entry)) (now (pair .entry)) ⌝ }
-    ensures { λ _. ⌜ PairShown (now (shape .entry)) (now (sent .entry)) (now (received .entry)) (now (set .entry)) (now (pair .entry)) (now (pair .exit)) ⌝ }
+    ensures { λ _. ⌜ now (pair .exit) ≡ testPair (now (shape .entry)) (now (sent .entry)) (now (received .entry)) (now (set .entry)) (now (pair .entry)) ⌝ }
 {
     let question = crate::three_question(
         shape.len(),
@@ -52,6 +55,42 @@ pub extern "C" fn recovery_line_test_set(
             0
         }
         SetAnswer::Refused(question) => question,
+    }
+}
+
+// Has a checkpoint received more than is known to be sent to its process? The lowest partner that shows it, or zero.
+#[no_mangle]
+pub extern "C" fn recovery_line_test_checkpoint(
+    shape: &[u64],
+    sent: &[Counter],
+    received: &[Counter],
+    process: u64,
+    checkpoint: u64,
+    known: &[Counter],
+    partner: &mut u64,
+) -> u32
+    ensures { λ r. ⌜ r ≡ columnAnswer (now (shape .entry)) (now (sent .entry)) (now (received .entry)) process checkpoint (now (known .entry)) ⌝ }
+    ensures { λ _. ⌜ now (partner .exit) ≡ columnPartner (now (shape .entry)) (now (sent .entry)) (now (received .entry)) process checkpoint (now (known .entry)) (now (partner .entry)) ⌝ }
+{
+    let question = crate::two_question(shape.len(), known.len(), book::MOST_PROCESSES);
+    if question != 0 {
+        return question;
+    }
+    let given = words::shape_in(shape);
+    let counts = words::counts_in(known);
+    let j = Process(words::number(process));
+    let r = Checkpoint(words::number(checkpoint));
+    let answer = consistency::test_checkpoint(given, sent, received, j, r, counts);
+    match answer {
+        CheckpointAnswer::Permitted => {
+            *partner = 0;
+            0
+        }
+        CheckpointAnswer::Offends(p) => {
+            *partner = words::of_number(p.0);
+            0
+        }
+        CheckpointAnswer::Refused(question) => question,
     }
 }
 

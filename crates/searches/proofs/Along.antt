@@ -21,7 +21,7 @@ use Rattle.demand3.proofs.Kept.{Holds, holds-next, long-next, counted, room-ans
 use Rattle.demand3.proofs.Purposes.{In, InSession, restarts, kept-in}
 use Rattle.searches.specs.Lowest.{lowestWaiting, toEnd}
 use Rattle.searches.proofs.Begin.{startOf, start-holds, start-long}
-use Rattle.searches.proofs.Lowest.{lowest-found, some-found}
+use Rattle.searches.proofs.Lowest.{found-waits, some-found}
 
 -- ---- one turn more, or none
 
@@ -80,7 +80,7 @@ module _ (g : Search) (is : IsSearch g) where
         let p : Process = lowestWaiting (o .session) in
         let some : 1 ≤ p .0 = some-found (o .session) waits in
         room-answers g is (InSession g) (kept-in g is) o (runs .holds) p some
-        (lowest-found (o .session) some .waits) (runs .room)
+        (found-waits (o .session) some .waits) (runs .room)
 
     pub next-counts : messageWaits (o .session) ≡ true → lowestNext o .session .delivered ≡ o .session .delivered + 1
     next-counts waits =

@@ -1,133 +1,93 @@
 -- The lowest strand on which a message waits.
-use mathlib.Core.Path.{_≡_, refl, sym, ap, subst, _∙_}
-use mathlib.Core.Bool.{Bool, true, false, not, true≢false}
+use mathlib.Core.Path.{_≡_, sym, ap, subst, _∙_}
+use mathlib.Core.Bool.{true, false, not, true≢false}
 use mathlib.Core.List.{List}
-use Prim.Native.Nat.{ℕ, zero, suc, _+_, _-_, _≤_, _<_}
+use mathlib.Core.Option.{Option, none, some}
+use Prim.Native.Nat.{ℕ, suc, _+_, _-_, _≤_, _<_}
 use native.Mathlib.Decide.{ℕ-discrete}
 use native.Mathlib.Omega.{arith}
 use native.Mathlib.Numerals.{add-one}
 use borrow.Author.Tests.{eq-eqb, ne-eqb}
 use Rattle.book.specs.declared.Process.{Process}
+use Rattle.lists.specs.Over.{lowest, numbered}
 use Rattle.lists.proofs.Before.{Before}
+use Rattle.lists.proofs.Lowest.{IsLowest, lowest-is, lowest-some, lowest-none}
 use Rattle.strands.specs.Strands.{lengthOn}
 use Rattle.session.specs.declared.Session.{Session}
 use Rattle.session.specs.Workers.{waitsOn}
 use Rattle.demand3.specs.Statement.{messageWaits}
 use Rattle.demand3.proofs.Exactly.{waits-some, waits-none}
-use Rattle.searches.specs.Lowest.{lowestFrom, lowestWaiting}
+use Rattle.searches.specs.Lowest.{lowestWaiting}
 
 -- the loop that looks for it, over the lengths: nothing waits on the strands so far
 abbrev pub NoneYet : List ℕ → ℕ → Type 0
 NoneYet lengths k = Before 16 (λ q. lengthOn lengths q ≡ 0) k
 
 module _ (s : Session) where
-  -- a message waits at k, or it does not
-  lowest-here : (k left : ℕ) → waitsOn s k ≡ true → lowestFrom k (suc left) s ≡ suc k
-  unfolding lowestFrom
-  lowest-here k left h = rw (lowestFrom, h)
-
-  lowest-later : (k left : ℕ) → waitsOn s k ≡ false → lowestFrom k (suc left) s ≡ lowestFrom (suc k) left s
-  unfolding lowestFrom
-  lowest-later k left h = rw (lowestFrom, h)
-
-  lowest-none : (k : ℕ) → lowestFrom k 0 s ≡ 0
-  unfolding lowestFrom
-  lowest-none k = refl
-
-  -- after so many strands on which none waits
-  lowest-skip : (k : ℕ) → k ≤ 16 → ((q : ℕ) → q < k → waitsOn s q ≡ false) → lowestFrom 0 16 s ≡ lowestFrom k (16 - k) s
-  lowest-skip zero small none = refl
-  lowest-skip (suc k) small none =
-      let left : 16 - k ≡ suc (16 - suc k) = omega arith in
-      lowest-skip k (omega arith) (λ q before. none q (omega arith))
-      ∙ ap (λ (l : ℕ). lowestFrom k l s) left
-      ∙ lowest-later k (16 - suc k) (none k (omega arith))
-
-  lowest-at : (k : ℕ) → k < 16 → ((q : ℕ) → q < k → waitsOn s q ≡ false) → waitsOn s k ≡ true → lowestFrom 0 16 s ≡ suc k
-  lowest-at k small none here =
-      let left : 16 - k ≡ suc (15 - k) = omega arith in
-      lowest-skip k (omega arith) none
-      ∙ ap (λ (l : ℕ). lowestFrom k l s) left
-      ∙ lowest-here k (15 - k) here
-
-  lowest-nowhere : ((q : ℕ) → q < 16 → waitsOn s q ≡ false) → lowestFrom 0 16 s ≡ 0
-  lowest-nowhere none = lowest-skip 16 (omega arith) none ∙ lowest-none 16
+  abbrev waiting : Option ℕ
+  waiting = lowest 16 (waitsOn s)
 
   quiet : (q : ℕ) → lengthOn (s .lengths) q ≡ 0 → waitsOn s q ≡ false
   quiet q e = ap not (eq-eqb (lengthOn (s .lengths) q) 0 e)
 
-  lowest-is : (k : ℕ) → NoneYet (s .lengths) k → k < 16 → (lengthOn (s .lengths) k ≡ 0 → ⊥)
+  waiting-is : (k : ℕ) → NoneYet (s .lengths) k → k < 16 → (lengthOn (s .lengths) k ≡ 0 → ⊥)
       → _≡_ {A = Process} (record { 0 = k + 1 }) (lowestWaiting s)
-  lowest-is k n small some =
-      let at : lowestFrom 0 16 s ≡ suc k =
-      lowest-at k small (λ q before. quiet q (n .so-far q before)) (ap not (ne-eqb (lengthOn (s .lengths) k) 0 some)) in
-      ap {B = Process} (λ (p : ℕ). record { 0 = p }) (add-one k ∙ sym at)
+  waiting-is k n small waits =
+      let at : waiting ≡ some k
+      = lowest-some 16 (waitsOn s) k
+      record {
+        below = small;
+        here = ap not (ne-eqb (lengthOn (s .lengths) k) 0 waits);
+        before = λ q before. quiet q (n .so-far q before);
+      } in
+      ap {B = Process} (λ (p : ℕ). record { 0 = p }) (add-one k ∙ sym (ap numbered at))
 
-  lowest-is-none : (k : ℕ) → NoneYet (s .lengths) k → 16 ≤ k → _≡_ {A = Process} (record { 0 = 0 }) (lowestWaiting s)
-  lowest-is-none k n all =
-      let none : lowestFrom 0 16 s ≡ 0 = lowest-nowhere (λ q small. quiet q (n .so-far q (omega arith))) in
-      ap {B = Process} (λ (p : ℕ). record { 0 = p }) (sym none)
+  waiting-nowhere : (k : ℕ) → NoneYet (s .lengths) k → 16 ≤ k → _≡_ {A = Process} (record { 0 = 0 }) (lowestWaiting s)
+  waiting-nowhere k n all =
+      let at : waiting ≡ none = lowest-none 16 (waitsOn s) (λ q small. quiet q (n .so-far q (omega arith))) in
+      ap {B = Process} (λ (p : ℕ). record { 0 = p }) (sym (ap numbered at))
 
-  -- what is found: one of these processes, on whose strand a message waits,
-  pub record Found (k left found : ℕ) : Type 0 where
-    pub from : k < found
-    pub among : found ≤ k + left
+  -- what is found: a process on whose strand a message waits,
+  pub record Found (found : ℕ) : Type 0 where
+    pub from : 1 ≤ found
+    pub among : found ≤ 16
     pub waits : waitsOn s (found - 1) ≡ true
 
-  found-waits : (left k : ℕ) → 1 ≤ lowestFrom k left s → Found k left (lowestFrom k left s)
-  found-waits zero k some = absurd (omega (arith, lowest-none k))
-  found-waits (suc left) k some = go (waitsOn s k) refl (λ rest. found-waits left (suc k) rest)
+  pub found-waits : 1 ≤ numbered waiting → Found (numbered waiting)
+  found-waits = go waiting (lowest-is 16 (waitsOn s))
     where
-      go : (v : Bool) → waitsOn s k ≡ v
-          → (1 ≤ lowestFrom (suc k) left s → Found (suc k) left (lowestFrom (suc k) left s))
-          → Found k (suc left) (lowestFrom k (suc left) s)
-      go true e rest =
-          let here : lowestFrom k (suc left) s ≡ suc k = lowest-here k left e in
-          let place : lowestFrom k (suc left) s - 1 ≡ k = omega arith in
-          record { from = omega arith; among = omega arith; waits = ap (waitsOn s) place ∙ e }
-      go false e rest =
-          let later : lowestFrom k (suc left) s ≡ lowestFrom (suc k) left s = lowest-later k left e in
-          let f : Found (suc k) left (lowestFrom (suc k) left s) = rest (omega arith) in
-          rw later (record { from = omega arith; among = omega arith; waits = f .waits })
+      go : (o : Option ℕ) → IsLowest (waitsOn s) 16 o → 1 ≤ numbered o → Found (numbered o)
+      go none never from-1 = absurd (omega arith)
+      go (some i) at from-1 =
+          let place : suc i - 1 ≡ i = omega arith in
+          record { from = from-1; among = omega (arith, at .below); waits = ap (waitsOn s) place ∙ at .here }
+
+  pub found-some : 1 ≤ numbered waiting → messageWaits s ≡ true
+  found-some from-1 =
+      let f : Found (numbered waiting) = found-waits from-1 in
+      waits-some s (numbered waiting - 1) (omega (arith, f .from, f .among)) (f .waits)
 
   -- or nothing, where no message waits on any
-  none-found : (left k : ℕ) → lowestFrom k left s ≡ 0 → (q : ℕ) → k ≤ q → q < k + left → waitsOn s q ≡ false
-  none-found zero k none q from among = absurd (omega arith)
-  none-found (suc left) k none q from among =
-      go (waitsOn s k) refl (λ later there. none-found left (suc k) later q there (omega arith))
+  pub found-none : numbered waiting ≡ 0 → messageWaits s ≡ false
+  found-none e = waits-none s (go waiting (lowest-is 16 (waitsOn s)) e)
     where
-      go : (v : Bool) → waitsOn s k ≡ v → (lowestFrom (suc k) left s ≡ 0 → k < q → waitsOn s q ≡ false) → waitsOn s q ≡ false
-      go true e rest = absurd (omega (arith, lowest-here k left e))
-      go false e rest =
-          elim (ℕ-discrete q k) [
-            | yes same ↦ rw same e
-            | no other ↦ rest (sym (lowest-later k left e) ∙ none) (omega arith)
-          ]
+      go : (o : Option ℕ) → IsLowest (waitsOn s) 16 o → numbered o ≡ 0 → (q : ℕ) → q < 16 → waitsOn s q ≡ false
+      go none never z = never
+      go (some i) at z = absurd (omega arith)
 
-  pub lowest-found : 1 ≤ lowestFrom 0 16 s → Found 0 16 (lowestFrom 0 16 s)
-  lowest-found some = found-waits 16 0 some
-
-  pub found-some : 1 ≤ lowestFrom 0 16 s → messageWaits s ≡ true
-  found-some some =
-      let f : Found 0 16 (lowestFrom 0 16 s) = lowest-found some in
-      waits-some s (lowestFrom 0 16 s - 1) (omega arith) (f .waits)
-
-  pub found-none : lowestFrom 0 16 s ≡ 0 → messageWaits s ≡ false
-  found-none none = waits-none s (λ k small. none-found 16 0 none k (omega arith) (omega arith))
-
-  pub some-found : messageWaits s ≡ true → 1 ≤ lowestFrom 0 16 s
+  pub some-found : messageWaits s ≡ true → 1 ≤ numbered waiting
   some-found waits =
-      elim (ℕ-discrete (lowestFrom 0 16 s) 0) [
-        | yes none ↦ absurd (true≢false (sym waits ∙ found-none none))
-        | no some ↦ omega arith
+      elim (ℕ-discrete (numbered waiting) 0) [
+        | yes none′ ↦ absurd (true≢false (sym waits ∙ found-none none′))
+        | no some′ ↦ omega arith
       ]
 
 -- so of each session with these lengths
 pub lowest-in : (lengths : List ℕ) (k : ℕ) → NoneYet lengths k → k < 16 → (lengthOn lengths k ≡ 0 → ⊥)
     → (s : Session) → s .lengths ≡ lengths → _≡_ {A = Process} (record { 0 = k + 1 }) (lowestWaiting s)
-lowest-in lengths k n small some s e =
-    lowest-is s k (subst (λ (l : List ℕ). NoneYet l k) (sym e) n) small (subst (λ (l : List ℕ). (lengthOn l k ≡ 0 → ⊥)) (sym e) some)
+lowest-in lengths k n small waits s e =
+    waiting-is s k (subst (λ (l : List ℕ). NoneYet l k) (sym e) n) small (subst (λ (l : List ℕ). (lengthOn l k ≡ 0 → ⊥)) (sym e) waits)
 
 pub none-in : (lengths : List ℕ) (k : ℕ) → NoneYet lengths k → 16 ≤ k
     → (s : Session) → s .lengths ≡ lengths → _≡_ {A = Process} (record { 0 = 0 }) (lowestWaiting s)
-none-in lengths k n all s e = lowest-is-none s k (subst (λ (l : List ℕ). NoneYet l k) (sym e) n) all
+none-in lengths k n all s e = waiting-nowhere s k (subst (λ (l : List ℕ). NoneYet l k) (sym e) n) all

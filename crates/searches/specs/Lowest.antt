@@ -6,6 +6,7 @@ use lib.ListN.{replicate}
 use Rattle.book.specs.Lent.{Tables}
 use Rattle.book.specs.declared.Process.{Process}
 use Rattle.book.specs.Bounds.{mostProcesses}
+use Rattle.lists.specs.Over.{lowest, numbered}
 use Rattle.line_theory.specs.OfTables.{viewOf}
 use Rattle.strands.specs.Strands.{roomForAll}
 use Rattle.session.specs.declared.Session.{Session}
@@ -17,13 +18,9 @@ use Rattle.demand3.specs.Statement.{messageWaits, mostDelivered}
 abbrev pub strandsInside : List ℕ
 strandsInside = replicate (roomForAll mostProcesses) 0
 
--- of so many processes from k on, the lowest on whose strand a message waits, numbered from 1; 0 for none
-unfoldable pub lowestFrom : ℕ → ℕ → Session → ℕ
-lowestFrom k zero session = 0
-lowestFrom k (suc left) session = elim (waitsOn session k) [ true ↦ suc k | false ↦ lowestFrom (suc k) left session ]
-
+-- the lowest process on whose strand a message waits, numbered from 1; 0 for none
 abbrev pub lowestWaiting : Session → Process
-lowestWaiting session = record { 0 = lowestFrom 0 mostProcesses session }
+lowestWaiting session = record { 0 = numbered (lowest mostProcesses (waitsOn session)) }
 
 module _ (tables : Tables) where
   -- turns until nothing waits, so many at most

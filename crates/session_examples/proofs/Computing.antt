@@ -1,5 +1,6 @@
 -- All that the examples compute with, under one name: `unfolding computing` unfolds it.
 -- Assumes nothing.
+use mathlib.Core.Option as option
 use Rattle.varint.specs.Number as number
 use Rattle.varint.specs.Sequence as sequence
 use Rattle.book.specs.Layout as layout
@@ -38,5 +39,5 @@ use Rattle.session.specs.Turns as turns
 use Rattle.searches.specs.Lowest as lowest
 
 unfoldable pub computing : Unit {0}
-unfolding number.groupsOf number.encode number.readGroups number.readNumber sequence.encodeAll sequence.scan sequence.numbersAt layout.joined layout.numbersOfProcesses layout.checkpointsIn layout.processesIn tables.tableRow tables.processRows tables.rowsFrom tables.countsOf tables.others tables.checkpointsOf tables.processesOf view.sum questions.counterQuestion questions.allZero questions.unusedOf questions.unusedFrom along.countersQuestion along.sentZeros along.receivedZeros along.checkpointQuestion along.checkpointsQuestion along.processesQuestion along.bookQuestion check.countsQuestion check.rowsQuestion check.contentsQuestion check.tablesQuestion read.readQuestion read.shapeRead read.sentRead read.receivedRead over.allTo over.sumTo over.tabFrom over.lastTo sets.consistent sets.newerThan search.permitted search.newest search.stepped search.settled search.lineSet set.allThere set.testQuestion line.checkpoints line.lineFound line.passedFound matrix.asRow matrix.asMatrix entries.same entries.restZero entries.noneAbove entries.allLower whole.allRestZero whole.allNotKnown whole.allNoneAbove message-layout.pairsTo message-layout.messageBytes formed.headFormed formed.pairFormed formed.pairsFormed formed.newsIn formed.invitationFormed formed.numbersFormed formed.messageFormed message.noMessage message.messageRead flags.someone flags.onlyParticipants flags.participants sends.nothing sends.onlyTo participant-fits.searchFits participant-fits.unknownOn participant-fits.fits participant-step.awaits participant-step.endOnOldest participant-step.end participant-step.stepBack participant-step.reportOf participant-step.step participant.noParticipant begin.wait begin.withoutWait begin.beginSearch begin.beginRestart begin.begin initiator-fits.searchFits initiator-fits.restartFits initiator-fits.entriesFit initiator-fits.waitFits initiator-fits.fits initiator-step.awaits initiator-step.takeReport initiator-step.stepBack initiator-step.polled initiator-step.poll initiator-step.terminate initiator-step.compare initiator-step.step initiator.noInitiator strands.strandBytes strands.haveRoom strands.postedTo strands.lengthsPosted held.heldDown held.heldUp held.held fits.sessionNamed fits.sessionPurposes fits.initiatorFits fits.participantFits fits.strandWithin fits.strandFits fits.isAbsent fits.placeFits fits.sessionFits steps.begun steps.onStrand steps.deliverDown steps.deliverUp steps.withPosted session.startQuestion session.noSession session.sessionStarted session.strandsStarted session.turnQuestion session.sessionAfter session.strandsAfter turns.afterTurns lowest.lowestFrom lowest.toEnd lowest.searched
+unfolding option.orElse option.bind number.groupsOf number.encode number.readGroups number.readNumber sequence.encodeAll sequence.scan sequence.numbersAt layout.joined layout.numbersOfProcesses layout.checkpointsIn layout.processesIn tables.tableRow tables.processRows tables.rowsFrom tables.countsOf tables.others tables.checkpointsOf tables.processesOf view.sum questions.counterQuestion questions.allZero questions.unusedOf questions.unusedFrom along.countersQuestion along.sentZeros along.receivedZeros along.checkpointQuestion along.checkpointsQuestion along.processesQuestion along.bookQuestion check.countsQuestion check.rowsQuestion check.contentsQuestion check.tablesQuestion read.readQuestion read.shapeRead read.sentRead read.receivedRead over.allTo over.sumTo over.tabFrom over.lastTo over.lowest over.lowestPair sets.newerThan search.permitted search.newest search.stepped search.settled search.lineSet set.allThere set.testQuestion set.answerToTest line.checkpoints line.lineFound line.passedFound matrix.asRow matrix.asMatrix entries.same entries.restZero entries.noneAbove entries.allLower whole.allRestZero whole.allNotKnown whole.allNoneAbove message-layout.pairsTo message-layout.messageBytes formed.headFormed formed.pairFormed formed.pairsFormed formed.newsIn formed.invitationFormed formed.numbersFormed formed.messageFormed message.noMessage message.messageRead flags.someone flags.onlyParticipants flags.participants sends.nothing sends.onlyTo participant-fits.searchFits participant-fits.unknownOn participant-fits.fits participant-step.awaits participant-step.endOnOldest participant-step.end participant-step.stepBack participant-step.reportOf participant-step.step participant.noParticipant begin.wait begin.withoutWait begin.beginSearch begin.beginRestart begin.begin initiator-fits.searchFits initiator-fits.restartFits initiator-fits.entriesFit initiator-fits.waitFits initiator-fits.fits initiator-step.awaits initiator-step.takeReport initiator-step.stepBack initiator-step.polled initiator-step.poll initiator-step.terminate initiator-step.compare initiator-step.step initiator.noInitiator strands.strandBytes strands.haveRoom strands.postedTo strands.lengthsPosted held.heldDown held.heldUp held.held fits.sessionNamed fits.sessionPurposes fits.initiatorFits fits.participantFits fits.strandWithin fits.strandFits fits.isAbsent fits.placeFits fits.sessionFits steps.begun steps.onStrand steps.deliverDown steps.deliverUp steps.withPosted session.startQuestion session.noSession session.sessionStarted session.strandsStarted session.turnQuestion session.sessionAfter session.strandsAfter turns.afterTurns lowest.toEnd lowest.searched
 computing = tt

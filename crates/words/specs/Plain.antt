@@ -1,11 +1,13 @@
--- Shapes, sets, lengths, orders and pairs as words.
-use mathlib.Core.List.{List, _∷_, _++_}
-use Prim.Native.Nat.{ℕ}
+-- Shapes, sets, lengths, orders and pairs as words; and counters that are lent beside the tables.
+use mathlib.Core.List.{List, [], _∷_, _++_}
+use mathlib.Core.Option.{Option, none, some}
+use Prim.Native.Nat.{ℕ, suc}
 use lib.ListN.{getD}
 use Rattle.book.specs.declared.Answer.{Answer}
 use Rattle.book.specs.declared.Answer.the-variants.{Accepted, Refused}
 use Rattle.book.specs.declared.Shape.{Shape}
 use Rattle.book.specs.declared.Checkpoint.{Checkpoint}
+use Rattle.book.specs.declared.Count.{Count}
 use Rattle.book.specs.Bounds.{mostProcesses}
 use Rattle.lists.specs.Over.{tab}
 use Rattle.consistency.specs.Set.{chosen}
@@ -35,6 +37,15 @@ setIn words = checkpoints (word words)
 
 abbrev pub setWords : List Checkpoint → List ℕ
 setWords set = tab mostProcesses (chosen set)
+
+-- a pair of processes that is found, numbered from 1; zeros for none
+abbrev pub pairWords : Option (ℕ × ℕ) → List ℕ
+pairWords none = 0 ∷ (0 ∷ [])
+pairWords (some pair) = suc (pair .0) ∷ (suc (pair .1) ∷ [])
+
+-- sixteen counters lent beside the tables: no words, but of the type of a table's entries
+abbrev pub countsIn : List ℕ → List Count
+countsIn entries = tab {A = Count} mostProcesses (λ i. record { 0 = getD entries i 0 })
 
 -- the checkpoints restarted from, how many go before, and how many after
 unfoldable pub orderWords : Order → List ℕ

@@ -43,11 +43,12 @@ orderLength = orderAfterAt + mostProcesses
 abbrev pub matrixLength : ℕ
 matrixLength = mostProcesses * mostProcesses
 
--- a slice of words of another length is refused by this number, before every question
+-- a slice of words, or of sixteen counters lent beside the tables, of another length is refused by this number, before every
+-- question
 abbrev pub wrongLength : ℕ
 wrongLength = 100
 
--- has a slice of words its length?
+-- has such a slice its length?
 abbrev pub isLong : ℕ → List ℕ → Bool
 isLong k words = eqb (length words) k
 

@@ -13,7 +13,7 @@ ghost use lib.ListN.{length};
 ghost use lib.Seq.{sets};
 ghost use Rattle.book.specs.Bounds.{mostProcesses};
 ghost use Rattle.words.specs.Words.{shapeLength, setLength, orderLength, matrixLength, allBelow, counterIn, tallyIn, sixteenAt, countsAt, countWords};
-ghost use Rattle.words.specs.Plain.{numberOf, shapeIn, shapeWords, setIn, numberWords, setWords, orderWords};
+ghost use Rattle.words.specs.Plain.{numberOf, shapeIn, shapeWords, setIn, countsIn, numberWords, setWords, orderWords};
 
 // What a counter's word is below: a counter is at most the mark for "not known".
 pub const COUNTER_BOUND: u64 = book::MARK + 1;
@@ -145,6 +145,20 @@ pub fn set_in(words: &[u64]) -> [Checkpoint; 16]
         i += 1;
     }
     set
+}
+
+// Sixteen counters lent beside the tables.
+pub fn counts_in(entries: &[Counter]) -> [Count; 16]
+    requires { ⌜ length (now entries) ≡ mostProcesses ⌝ }
+    ensures { λ r. ⌜ r ≡ countsIn (now (entries .entry)) ⌝ }
+{
+    let mut counts = [Count(0); 16];
+    let mut i = 0;
+    while i < book::MOST_PROCESSES {
+        counts[i] = Count(entries[i]);
+        i += 1;
+    }
+    counts
 }
 
 // Sixteen numbers, to a place on.

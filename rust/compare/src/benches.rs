@@ -5,7 +5,7 @@ use crate::book::Book;
 use crate::call::Call;
 use crate::claims::waiting;
 use crate::layout::{initiator, participant, session, slot_start};
-use crate::layout::{strand_bytes, Counter, BOOK_BYTES, ORDER_WORDS, PAIR_WORDS, SET_WORDS};
+use crate::layout::{strand_bytes, Counter, BOOK_BYTES, ORDER_WORDS, PAIR_WORDS, PROCESSES, SET_WORDS};
 use crate::lent::{Guarded, Lent};
 use crate::line::line;
 use crate::ours;
@@ -20,7 +20,12 @@ pub enum Operation {
     Journal,
     Check,
     Write,
+    /// The line, so that every pair is looked at.
     TestSet,
+    /// The newest set.
+    TestNewest,
+    /// The first process's newest checkpoint, against what the others' newest had sent to it.
+    TestCheckpoint,
     Find,
     /// One turn that delivers the first poll or report after some others.
     Turn,
@@ -42,6 +47,7 @@ struct Native {
     bytes: Vec<u8>,
     out: Vec<u8>,
     set: [u64; SET_WORDS],
+    known: [Counter; PROCESSES],
     session: Option<Session>,
 }
 
@@ -60,6 +66,9 @@ pub struct Bench {
 const INITIATOR: u64 = 1;
 const PURPOSE: u64 = 3;
 
+/// The process whose checkpoint is tested.
+const FIRST: u64 = 1;
+
 impl Bench {
     /// An operation on a book; a turn, or what a machine receives, is the one after so many others.
     pub fn new(operation: Operation, book: &Book, turns_before: usize) -> Self {
@@ -73,7 +82,8 @@ impl Bench {
             received: book.received.clone(),
             bytes: book.bytes(),
             out: vec![0; lent.out.lent().len()],
-            set: set_words(book),
+            set: set_of(operation, book),
+            known: sent_to_first(book),
             session: None,
         };
         let mut bench = Bench {
@@ -171,7 +181,8 @@ impl Bench {
             Operation::Journal => Call::Journal,
             Operation::Check => Call::Check,
             Operation::Write => Call::Write,
-            Operation::TestSet => Call::TestSet,
+            Operation::TestSet | Operation::TestNewest => Call::TestSet,
+            Operation::TestCheckpoint => Call::TestCheckpoint,
             Operation::Find => Call::Find,
             Operation::Search => Call::Search,
             Operation::Move => Call::Move,
@@ -213,29 +224,50 @@ impl Bench {
             bytes,
             out,
             set,
-            session,
+            known,
+            ..
         } = black_box(&mut self.native);
         let accepted = match self.operation {
             Operation::Read => black_box(reference::read(bytes, sent, received)).is_ok(),
             Operation::Journal => black_box(reference::read_journal(bytes, sent, received)).is_ok(),
             Operation::Check => black_box(reference::check(shape, sent, received)).is_ok(),
             Operation::Write => black_box(reference::write(shape, sent, received, out)).is_ok(),
-            Operation::TestSet => black_box(reference::test_set(shape, sent, received, set)).is_ok(),
+            Operation::TestSet | Operation::TestNewest => {
+                black_box(reference::test_set(shape, sent, received, set)).is_ok()
+            }
+            Operation::TestCheckpoint => {
+                let newest = shape.counts[0];
+                black_box(reference::test_checkpoint(shape, sent, received, FIRST, newest, known)).is_ok()
+            }
             Operation::Find => black_box(reference::find_line(shape, sent, received)).is_ok(),
             Operation::Search => black_box(reference::search(shape, sent, received, INITIATOR, PURPOSE)).is_ok(),
             Operation::Move => black_box(reference::move_line(shape, sent, received, PURPOSE)).is_ok(),
             Operation::Turn => return self.turn_theirs(self.turn),
-            Operation::ParticipantReceive => {
-                let state = &mut started(session).participants[self.turn as usize - 1];
-                black_box(reference::participant_receive(state, shape, sent, received, bytes, out)).is_ok()
-            }
-            Operation::InitiatorReceive => {
-                let state = &mut started(session).machine;
-                black_box(reference::initiator_receive(state, shape, sent, received, bytes, out)).is_ok()
-            }
+            Operation::ParticipantReceive | Operation::InitiatorReceive => return self.receive_theirs(),
             Operation::Session => return self.session_theirs(),
         };
         assert!(accepted, "a measured call is accepted");
+    }
+
+    fn receive_theirs(&mut self) {
+        let Native {
+            shape,
+            sent,
+            received,
+            bytes,
+            out,
+            session,
+            ..
+        } = black_box(&mut self.native);
+        let session = started(session);
+        let accepted = if self.operation == Operation::ParticipantReceive {
+            let state = &mut session.participants[self.turn as usize - 1];
+            black_box(reference::participant_receive(state, shape, sent, received, bytes, out)).is_ok()
+        } else {
+            let state = &mut session.machine;
+            black_box(reference::initiator_receive(state, shape, sent, received, bytes, out)).is_ok()
+        };
+        assert!(accepted, "a measured message is accepted");
     }
 
     fn start_theirs(&mut self) {
@@ -294,30 +326,44 @@ fn started(session: &mut Option<Session>) -> &mut Session {
 fn lent_for(operation: Operation, book: &Book) -> Lent {
     let mut lent = lent_tables(book);
     lent.bytes = Guarded::holding(&book.bytes());
-    lent.set = Guarded::holding(&set_words(book));
+    lent.set = Guarded::holding(&set_of(operation, book));
+    lent.known = Guarded::holding(&sent_to_first(book));
     lent.out = Guarded::fresh(match operation {
         Operation::Write => BOOK_BYTES,
         _ => strand_bytes(book.n()),
     });
     lent.state = Guarded::fresh(session::WORDS);
     lent.result = Guarded::fresh(match operation {
-        Operation::TestSet => PAIR_WORDS,
+        Operation::TestSet | Operation::TestNewest => PAIR_WORDS,
         Operation::Move => ORDER_WORDS,
         _ => SET_WORDS,
     });
-    lent.names = if operation == Operation::Move {
-        [PURPOSE, 0, 0]
-    } else {
-        [INITIATOR, PURPOSE, 0]
+    lent.names = match operation {
+        Operation::Move => [PURPOSE, 0, 0],
+        Operation::TestCheckpoint => [FIRST, book.count(1) as u64, 0],
+        _ => [INITIATOR, PURPOSE, 0],
     };
     lent
 }
 
-/// The line as a set, so that every pair is looked at.
-fn set_words(book: &Book) -> [u64; SET_WORDS] {
+/// The set that an operation tests.
+fn set_of(operation: Operation, book: &Book) -> [u64; SET_WORDS] {
+    let set = match operation {
+        Operation::TestNewest => book.newest(),
+        _ => line(book),
+    };
     let mut words = [0; SET_WORDS];
-    for (word, r) in words.iter_mut().zip(line(book)) {
+    for (word, r) in words.iter_mut().zip(set) {
         *word = r as u64;
     }
     words
+}
+
+/// What every process's newest checkpoint had sent to the first process.
+fn sent_to_first(book: &Book) -> [Counter; PROCESSES] {
+    let mut known = [0; PROCESSES];
+    for (p, entry) in (1..=book.n()).zip(&mut known) {
+        *entry = book.sent[book.place(p, book.count(p), 1)];
+    }
+    known
 }

@@ -8,6 +8,7 @@ pub enum Call {
     Check,
     Write,
     TestSet,
+    TestCheckpoint,
     Find,
     ParticipantFirst,
     ParticipantReceive,
@@ -21,12 +22,13 @@ pub enum Call {
 }
 
 /// All calls, in the order of the header.
-pub const CALLS: [Call; 15] = [
+pub const CALLS: [Call; 16] = [
     Call::Read,
     Call::Journal,
     Call::Check,
     Call::Write,
     Call::TestSet,
+    Call::TestCheckpoint,
     Call::Find,
     Call::ParticipantFirst,
     Call::ParticipantReceive,
@@ -39,7 +41,7 @@ pub const CALLS: [Call; 15] = [
     Call::RestartOrder,
 ];
 
-/// The answer of a call that is lent a slice of words of the wrong length.
+/// The answer of a call that is lent a slice of words, or of sixteen counters, of the wrong length.
 pub const WRONG_LENGTH: u32 = 100;
 
 /// All answers: accepted, the questions, and the wrong length.
@@ -77,6 +79,7 @@ impl Call {
             Call::Check => "check",
             Call::Write => "write",
             Call::TestSet => "test_set",
+            Call::TestCheckpoint => "test_checkpoint",
             Call::Find => "find",
             Call::ParticipantFirst => "participant_first",
             Call::ParticipantReceive => "participant_receive",
@@ -98,6 +101,7 @@ impl Call {
             Call::Check | Call::Find => &[],
             Call::Write => &[17],
             Call::TestSet => &[12],
+            Call::TestCheckpoint => &[10, 12],
             Call::ParticipantFirst | Call::Search => &[10, 11],
             Call::ParticipantReceive | Call::InitiatorReceive => &[10, 11, 13, 14, 15, 16, 17],
             Call::InitiatorBegin | Call::SessionStart => &[10, 11, 17],
@@ -121,7 +125,7 @@ impl Call {
     pub fn names(self) -> usize {
         match self {
             Call::ParticipantFirst => 3,
-            Call::InitiatorBegin | Call::SessionStart | Call::Search => 2,
+            Call::TestCheckpoint | Call::InitiatorBegin | Call::SessionStart | Call::Search => 2,
             Call::SessionTurn | Call::Move | Call::RestartOrder => 1,
             _ => 0,
         }

@@ -2,7 +2,7 @@
 
 use crate::call::Call;
 use crate::layout::{Counter, CHECKPOINTS, NOT_KNOWN, PROCESSES, TABLE_ENTRIES};
-use crate::lent::{Guarded, Lent};
+use crate::lent::{Guarded, Lent, Pattern};
 use crate::random::Random;
 
 /// Numbers that no shape, name or checkpoint may be, or only some.
@@ -108,8 +108,12 @@ pub fn change_table_lengths(random: &mut Random, lent: &mut Lent) {
     }
 }
 
-/// Lends a slice of words of the wrong length.
+/// Lends a slice of words, or a column, of the wrong length.
 pub fn change_word_lengths(random: &mut Random, call: Call, lent: &mut Lent) {
+    if call == Call::TestCheckpoint && random.once_in(2) {
+        lent.known = of_another_length(random, &lent.known);
+        return;
+    }
     let mut slices: Vec<&mut Guarded<u64>> = vec![&mut lent.shape];
     if call.takes_state() || matches!(call, Call::ParticipantFirst | Call::InitiatorBegin | Call::SessionStart) {
         slices.push(&mut lent.state);
@@ -121,7 +125,11 @@ pub fn change_word_lengths(random: &mut Random, call: Call, lent: &mut Lent) {
         slices.push(&mut lent.result);
     }
     let chosen = random.below(slices.len());
-    let slice = &mut slices[chosen];
+    let slice = &mut *slices[chosen];
+    *slice = of_another_length(random, slice);
+}
+
+fn of_another_length<T: Pattern>(random: &mut Random, slice: &Guarded<T>) -> Guarded<T> {
     let length = slice.lent().len();
-    **slice = slice.resized(random.one_of(&[0, 1, length.saturating_sub(1), length + 1, 2 * length]));
+    slice.resized(random.one_of(&[0, 1, length.saturating_sub(1), length + 1, 2 * length]))
 }

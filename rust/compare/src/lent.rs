@@ -86,9 +86,11 @@ pub struct Lent {
     pub state: Guarded<u64>,
     /// The set to be tested.
     pub set: Guarded<u64>,
+    /// What each process is known to have sent.
+    pub known: Guarded<Counter>,
     /// Where lengths, a pair, a line or an order are written.
     pub result: Guarded<u64>,
-    /// Process numbers and purpose, in the order of the call's parameters.
+    /// Process numbers, a checkpoint and a purpose, in the order of the call's parameters.
     pub names: [u64; 3],
     /// Where single numbers are written, in the order of the call's parameters.
     pub numbers: [u64; 3],
@@ -105,6 +107,7 @@ impl Lent {
             out: Guarded::fresh(0),
             state: Guarded::fresh(0),
             set: Guarded::fresh(0),
+            known: Guarded::fresh(0),
             result: Guarded::fresh(0),
             names: [0; 3],
             numbers: [u64::at(0), u64::at(1), u64::at(2)],
@@ -136,6 +139,7 @@ impl Lent {
         note("out", first_difference(&self.out, &other.out));
         note("state", first_difference(&self.state, &other.state));
         note("set", first_difference(&self.set, &other.set));
+        note("known", first_difference(&self.known, &other.known));
         note("result", first_difference(&self.result, &other.result));
         for (place, (a, b)) in self.numbers.iter().zip(&other.numbers).enumerate() {
             note("numbers", (a != b).then(|| format!("[{place}]: {a} and {b}")));

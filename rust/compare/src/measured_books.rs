@@ -29,6 +29,14 @@ pub fn dense(n: usize, checkpoints: usize, small: bool) -> Book {
     book
 }
 
+/// A dense book whose newest set has one pair at fault: the last process, and the one before it.
+pub fn last_pair_at_fault(n: usize, checkpoints: usize) -> Book {
+    let mut book = dense(n, checkpoints, false);
+    let sent = book.sent[book.place(n - 1, book.count(n - 1), n)];
+    *book.entry_mut(Table::Received, n, book.count(n), n - 1) = sent + 1;
+    book
+}
+
 /// A ring of n processes with this T, a multiple of n; the line is the oldest set.
 pub fn ring_with(n: usize, passed: usize) -> Book {
     ring(n, passed / n + 1, 1)

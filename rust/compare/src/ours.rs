@@ -32,12 +32,15 @@ struct Arguments {
     out: Raw<u8>,
     state: Raw<u64>,
     set: Raw<u64>,
+    known: Raw<Counter>,
     result: Raw<u64>,
     names: [u64; 3],
     numbers: [*mut u64; 3],
 }
 
 impl Arguments {
+    // Inlined, so that a measured call pays nothing for what it is not given.
+    #[inline(always)]
     fn of(lent: &mut Lent) -> Self {
         let [first, second, third] = &mut lent.numbers;
         Arguments {
@@ -48,6 +51,7 @@ impl Arguments {
             out: raw(&mut lent.out),
             state: raw(&mut lent.state),
             set: raw(&mut lent.set),
+            known: raw(&mut lent.known),
             result: raw(&mut lent.result),
             names: lent.names,
             numbers: [first, second, third],
@@ -78,7 +82,8 @@ pub fn run(call: Call, lent: &mut Lent) -> u32 {
     // Each slice is a buffer of its own, initialised, of the length that goes with its pointer.
     unsafe {
         match call {
-            Call::Read | Call::Journal | Call::Check | Call::Write | Call::TestSet | Call::Find => on_books(call, &a),
+            Call::Read | Call::Journal | Call::Check | Call::Write | Call::Find => on_books(call, &a),
+            Call::TestSet | Call::TestCheckpoint => on_sets(call, &a),
             Call::SessionStart | Call::SessionTurn | Call::Search => on_sessions(call, &a),
             Call::Move | Call::RestartOrder => on_moves(call, &a),
             _ => on_machines(call, &a),
@@ -92,8 +97,17 @@ unsafe fn on_books(call: Call, a: &Arguments) -> u32 {
         Call::Journal => call!(recovery_line_journal, a, [bytes shape sent received]),
         Call::Check => call!(recovery_line_check, a, [shape sent received]),
         Call::Write => call!(recovery_line_write, a, [shape sent received out], a.numbers[0]),
-        Call::TestSet => call!(recovery_line_test_set, a, [shape sent received set result]),
         _ => call!(recovery_line_find, a, [shape sent received result], a.numbers[0]),
+    }
+}
+
+unsafe fn on_sets(call: Call, a: &Arguments) -> u32 {
+    let [process, checkpoint, _] = a.names;
+    match call {
+        Call::TestSet => call!(recovery_line_test_set, a, [shape sent received set result]),
+        _ => {
+            call!(recovery_line_test_checkpoint, a, [shape sent received], process, checkpoint; [known], a.numbers[0])
+        }
     }
 }
 

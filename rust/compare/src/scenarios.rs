@@ -4,27 +4,28 @@ use crate::book::Book;
 use crate::books::any_book;
 use crate::call::Call;
 use crate::damaged_books;
-use crate::layout::{initiator, participant, participants, session, strand_bytes, ORDER_WORDS, PAIR_WORDS, SET_WORDS};
+use crate::layout::{initiator, participant, participants, session, strand_bytes, ORDER_WORDS, SET_WORDS};
 use crate::lent::{Guarded, Lent};
 use crate::random::Random;
 use crate::runner::{book_of, Runner};
 use crate::tally::Kind;
-use crate::variations::{change_set, varied};
-use crate::{journal_scenarios, line, machine_scenarios, session_scenarios};
+use crate::variations::varied;
+use crate::{journal_scenarios, line, machine_scenarios, session_scenarios, set_scenarios};
 
 /// Runs the scenario of a number.
 pub fn run(runner: &mut Runner, number: u64) {
     runner.scenario = number;
     let random = &mut Random::of_part(runner.seed, number);
     // A scenario that ends early says so in the runner.
-    let _ = match random.below(18) {
+    let _ = match random.below(19) {
         0 | 1 => books(runner, random),
         2 => tables(runner, random),
-        3 => sets(runner, random),
+        3 => set_scenarios::sets(runner, random),
         4 => machine_scenarios::search(runner, random),
         5..=7 => machine_scenarios::forged(runner, random),
         8..=11 => session_scenarios::search(runner, random),
         12 | 13 => journal_scenarios::journals(runner, random),
+        14 => set_scenarios::columns(runner, random),
         _ => session_scenarios::forged(runner, random),
     };
 }
@@ -151,37 +152,6 @@ fn moved(runner: &mut Runner, random: &mut Random, left: &Lent) -> Option<()> {
     lent.result = Guarded::fresh(ORDER_WORDS);
     lent.names = [random.between(1, 3) as u64, 0, 0];
     runner.case(Kind::ValidTables, Call::Move, lent)?;
-    Some(())
-}
-
-/// Sets: the line, sets near it, newest and oldest ones, any, and words that are no checkpoints.
-fn sets(runner: &mut Runner, random: &mut Random) -> Option<()> {
-    let book = any_book(random);
-    let n = book.n();
-    let line = line::line(&book);
-    for round in 0..8 {
-        let mut set = match round {
-            0 => line.clone(),
-            1 => book.newest(),
-            2 => vec![1; n],
-            _ => (1..=n).map(|j| random.between(1, book.count(j))).collect(),
-        };
-        if round == 3 {
-            set = line.clone();
-            let j = random.between(1, n);
-            set[j - 1] = (set[j - 1] + 1).min(book.count(j));
-        }
-        let mut lent = lent_tables(&book);
-        let mut words: Vec<u64> = set.iter().map(|&r| r as u64).collect();
-        words.resize(SET_WORDS, 0);
-        lent.set = Guarded::holding(&words);
-        lent.result = Guarded::fresh(PAIR_WORDS);
-        runner.case(Kind::Set, Call::TestSet, lent.clone())?;
-        let (kind, varied_lent) = varied(random, Call::TestSet, &lent);
-        runner.case(kind, Call::TestSet, varied_lent)?;
-        change_set(random, &mut lent);
-        runner.case(Kind::Set, Call::TestSet, lent)?;
-    }
     Some(())
 }
 

@@ -14,6 +14,8 @@ pub fn describe(lent: &Lent) -> String {
     bytes(&mut text, "out", lent.out.lent());
     words(&mut text, "state", lent.state.lent());
     words(&mut text, "set", lent.set.lent());
+    let known: Vec<u64> = lent.known.lent().iter().copied().map(u64::from).collect();
+    words(&mut text, "known", &known);
     words(&mut text, "result", lent.result.lent());
     let _ = writeln!(text, "  names {:?}", lent.names);
     text

@@ -18,6 +18,7 @@ pub enum Kind {
     SessionHead,
     Places,
     Set,
+    Column,
     Name,
     Room,
     RealMessage,
@@ -31,7 +32,7 @@ pub enum Kind {
 }
 
 /// All kinds, with what the table calls them.
-const KINDS: [(Kind, &str); 23] = [
+const KINDS: [(Kind, &str); 24] = [
     (Kind::ValidBook, "valid books read"),
     (Kind::DamagedBook, "damaged books read"),
     (Kind::ValidJournal, "valid journals read"),
@@ -39,13 +40,14 @@ const KINDS: [(Kind, &str); 23] = [
     (Kind::ValidTables, "valid tables"),
     (Kind::DamagedTables, "damaged tables"),
     (Kind::TableLengths, "tables of wrong length"),
-    (Kind::WordLengths, "words of wrong length"),
+    (Kind::WordLengths, "words or columns of wrong length"),
     (Kind::OtherTables, "states on other tables"),
     (Kind::OtherProcesses, "sessions on tables of another n"),
     (Kind::SessionHead, "sessions with another n or initiator"),
     (Kind::Places, "machines at unused places, places emptied"),
     (Kind::Set, "sets"),
-    (Kind::Name, "names and purposes"),
+    (Kind::Column, "checkpoints against columns"),
+    (Kind::Name, "names, checkpoints and purposes"),
     (Kind::Room, "buffers of other length"),
     (Kind::RealMessage, "messages of real searches"),
     (Kind::DamagedMessage, "damaged messages"),

@@ -26,7 +26,8 @@ pub fn run(call: Call, lent: &mut Lent) -> u32 {
             lent.names[0],
             lent.result.lent_mut(),
         ),
-        Call::Check | Call::Write | Call::TestSet | Call::Find | Call::RestartOrder => on_books(call, lent),
+        Call::Check | Call::Write | Call::Find | Call::RestartOrder => on_books(call, lent),
+        Call::TestSet | Call::TestCheckpoint => on_sets(call, lent),
         Call::SessionStart | Call::SessionTurn | Call::Search => on_sessions(call, lent),
         _ => on_machines(call, lent),
     }
@@ -38,9 +39,18 @@ fn on_books(call: Call, lent: &mut Lent) -> u32 {
     match call {
         Call::Check => words::check(shape, sent, received),
         Call::Write => words::write(shape, sent, received, lent.out.lent_mut(), number),
-        Call::TestSet => words::test_set(shape, sent, received, lent.set.lent(), result),
         Call::Find => words::find(shape, sent, received, result, number),
         _ => words::restart_order(shape, sent, received, lent.names[0], result),
+    }
+}
+
+fn on_sets(call: Call, lent: &mut Lent) -> u32 {
+    let (shape, sent, received) = (lent.shape.lent(), lent.sent.lent(), lent.received.lent());
+    let ([process, checkpoint, _], known) = (lent.names, lent.known.lent());
+    let (pair, partner) = (lent.result.lent_mut(), &mut lent.numbers[0]);
+    match call {
+        Call::TestSet => words::test_set(shape, sent, received, lent.set.lent(), pair),
+        _ => words::test_checkpoint(shape, sent, received, process, checkpoint, known, partner),
     }
 }
 

@@ -5,7 +5,7 @@ use crate::call::Call;
 use crate::changed_states::{change_initiator, change_participant, change_session, damage_strands};
 use crate::damaged_books::with_bytes_changed;
 use crate::damaged_tables::{change_entries, change_shape, change_table_lengths, change_word_lengths, ODD_NUMBERS};
-use crate::layout::{initiator, message_bytes, participant, session, slot_start, PROCESSES};
+use crate::layout::{initiator, message_bytes, participant, session, slot_start, Counter, NOT_KNOWN, PROCESSES};
 use crate::lent::{Guarded, Lent};
 use crate::messages;
 use crate::other_tables::{change_processes, change_tables_validly};
@@ -32,6 +32,7 @@ fn own_kinds(call: Call) -> &'static [Kind] {
         Call::Read => &[Kind::DamagedBook],
         Call::Journal => &[Kind::DamagedJournal],
         Call::TestSet => &[Kind::Set],
+        Call::TestCheckpoint => &[Kind::Column, Kind::Name, Kind::Name],
         Call::Write => &[Kind::Room],
         Call::ParticipantFirst | Call::Search | Call::Move | Call::RestartOrder => &[Kind::Name],
         Call::InitiatorBegin | Call::SessionStart => &[Kind::Name, Kind::Room],
@@ -103,6 +104,7 @@ fn change(random: &mut Random, call: Call, kind: Kind, lent: &mut Lent) {
         Kind::SessionHead => change_head(random, lent),
         Kind::Places => change_places(random, lent.state.lent_mut()),
         Kind::Set => change_set(random, lent),
+        Kind::Column => change_column(random, lent),
         Kind::Name => change_name(random, call, lent),
         Kind::Room => change_room(random, call, lent),
         Kind::DamagedMessage => damage_message(random, lent),
@@ -130,7 +132,23 @@ pub fn change_set(random: &mut Random, lent: &mut Lent) {
     };
 }
 
-/// Changes a process number or a purpose.
+/// Changes an entry of a column.
+fn change_column(random: &mut Random, lent: &mut Lent) {
+    let known = lent.known.lent_mut();
+    if known.is_empty() {
+        return;
+    }
+    let place = random.below(known.len());
+    known[place] = match random.below(5) {
+        0 => 0,
+        1 => NOT_KNOWN as Counter,
+        2 => known[place].wrapping_add(1),
+        3 => known[place].wrapping_sub(1),
+        _ => random.number() as Counter,
+    };
+}
+
+/// Changes a process number, a checkpoint or a purpose.
 fn change_name(random: &mut Random, call: Call, lent: &mut Lent) {
     let place = random.below(call.names());
     lent.names[place] = match random.below(4) {

@@ -7,9 +7,12 @@ use compare::claims::waiting;
 use compare::forged::ForgedSession;
 use compare::journal_claims::{channels_hold, Met};
 use compare::journals::{any_journal, long_journal, Journal};
+use compare::layout::{Counter, NOT_KNOWN};
 use compare::lent::{Guarded, Lent};
 use compare::line::{is_line_of_all_sets, line, passed};
+use compare::measured_books::last_pair_at_fault;
 use compare::measured_journals::{in_any_order, in_turn};
+use compare::pair_claims::{faults, is_first, is_permitted_by_mark, offenders};
 use compare::random::Random;
 use compare::scenarios::lent_tables;
 use compare::theirs;
@@ -105,4 +108,44 @@ fn a_receipt_of_nothing_breaks_the_channels_law() {
     assert!(law(&[2, 1, 1, 2, 2, 2, 1, 1, 1, 2]));
     assert!(!law(&[2, 2, 2, 1, 1, 1, 2]));
     assert!(!law(&[2, 1, 1, 2, 2, 2, 1, 2, 2, 1]));
+}
+
+/// Three processes: 1's newest has received from 3, and 2's from 1 and 3, what nobody has sent.
+fn unsent() -> Book {
+    let mut book = Book::of_zeros(&[2, 2, 1]);
+    *book.entry_mut(Table::Received, 1, 2, 3) = 1;
+    *book.entry_mut(Table::Received, 2, 2, 1) = 5;
+    *book.entry_mut(Table::Received, 2, 2, 3) = 1;
+    book
+}
+
+#[test]
+fn only_the_first_pair_is_first() {
+    let at_fault = faults(&unsent(), &[2, 2, 1]);
+    assert_eq!(at_fault, [(1, 3), (2, 1), (2, 3)]);
+    assert!(is_first((1, 3), &at_fault));
+    for other in [(0, 0), (1, 2), (2, 1), (2, 3), (3, 1), (0, 1), (4, 1)] {
+        assert!(!is_first(other, &at_fault), "{other:?}");
+    }
+    assert!(is_first((0, 0), &faults(&unsent(), &[1, 1, 1])));
+}
+
+#[test]
+fn only_the_lowest_partner_is_first() {
+    let offending = offenders(&unsent(), 2, 2, &[4, 0, 0]);
+    assert_eq!(offending, [1, 3]);
+    assert!(is_first(1, &offending));
+    assert!(!is_first(3, &offending) && !is_first(2, &offending) && !is_first(0, &offending));
+    assert!(is_first(0, &offenders(&unsent(), 2, 2, &[5, 0, 1])));
+    let mark = NOT_KNOWN as Counter;
+    assert!(is_permitted_by_mark(&unsent(), 2, 2, &[mark, 0, 1]));
+    assert!(!is_permitted_by_mark(&unsent(), 2, 2, &[mark, 0, 0]));
+    assert!(!is_permitted_by_mark(&unsent(), 2, 2, &[5, mark, 1]));
+}
+
+#[test]
+fn the_measured_fault_is_the_last_pair() {
+    let book = last_pair_at_fault(16, 256);
+    assert_eq!(faults(&book, &book.newest()), [(16, 15)]);
+    assert_eq!(theirs::run(Call::Check, &mut lent_tables(&book)), 0);
 }

@@ -65,6 +65,13 @@ impl Count {
     pub(crate) fn known(number: u64) -> Option<Count> {
         (number != u64::from(sys::RECOVERY_LINE_NOT_KNOWN)).then_some(Count(number))
     }
+
+    /// The entry that says what is known to have been sent. A count above every counter permits as much as "not known".
+    pub(crate) fn entry(known: Option<Count>) -> sys::Counter {
+        known.map_or(sys::RECOVERY_LINE_NOT_KNOWN, |count| {
+            count.0.min(sys::RECOVERY_LINE_NOT_KNOWN.into()) as sys::Counter
+        })
+    }
 }
 
 /// What a search or a move is for.

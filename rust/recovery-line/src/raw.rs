@@ -9,21 +9,30 @@
 use crate::refusal::Refusal;
 use crate::sys::{self, Counter};
 
+/// Calls a function of [`sys`] with its arguments in order: a slice in brackets, `mut` if it is written, and a number, or where
+/// to write one, by its name.
+macro_rules! call {
+    (@ $function:ident ($($done:expr,)*)) => {
+        // SAFETY: as the module says.
+        Refusal::from_answer(unsafe { sys::$function($($done),*) })
+    };
+    (@ $function:ident ($($done:expr,)*) [mut $slice:ident] $($rest:tt)*) => {
+        call!(@ $function ($($done,)* $slice.as_mut_ptr(), $slice.len(),) $($rest)*)
+    };
+    (@ $function:ident ($($done:expr,)*) [$slice:ident] $($rest:tt)*) => {
+        call!(@ $function ($($done,)* $slice.as_ptr(), $slice.len(),) $($rest)*)
+    };
+    (@ $function:ident ($($done:expr,)*) $number:ident $($rest:tt)*) => {
+        call!(@ $function ($($done,)* $number,) $($rest)*)
+    };
+    ($function:ident $($arguments:tt)*) => {
+        call!(@ $function () $($arguments)*)
+    };
+}
+
 /// Reads a book: its counters into the two tables, every entry of both, and its shape.
 pub fn read(bytes: &[u8], shape: &mut [u64], sent: &mut [Counter], received: &mut [Counter]) -> Result<(), Refusal> {
-    // SAFETY: as the module says.
-    Refusal::from_answer(unsafe {
-        sys::recovery_line_read(
-            bytes.as_ptr(),
-            bytes.len(),
-            shape.as_mut_ptr(),
-            shape.len(),
-            sent.as_mut_ptr(),
-            sent.len(),
-            received.as_mut_ptr(),
-            received.len(),
-        )
-    })
+    call!(recovery_line_read [bytes] [mut shape] [mut sent] [mut received])
 }
 
 /// Reads a journal: the counters of the book that it builds into the two tables, every entry of both, and its shape.
@@ -33,34 +42,12 @@ pub fn read_journal(
     sent: &mut [Counter],
     received: &mut [Counter],
 ) -> Result<(), Refusal> {
-    // SAFETY: as the module says.
-    Refusal::from_answer(unsafe {
-        sys::recovery_line_journal(
-            bytes.as_ptr(),
-            bytes.len(),
-            shape.as_mut_ptr(),
-            shape.len(),
-            sent.as_mut_ptr(),
-            sent.len(),
-            received.as_mut_ptr(),
-            received.len(),
-        )
-    })
+    call!(recovery_line_journal [bytes] [mut shape] [mut sent] [mut received])
 }
 
 /// Checks lent tables, and changes nothing.
 pub fn check(shape: &[u64], sent: &[Counter], received: &[Counter]) -> Result<(), Refusal> {
-    // SAFETY: as the module says.
-    Refusal::from_answer(unsafe {
-        sys::recovery_line_check(
-            shape.as_ptr(),
-            shape.len(),
-            sent.as_ptr(),
-            sent.len(),
-            received.as_ptr(),
-            received.len(),
-        )
-    })
+    call!(recovery_line_check[shape][sent][received])
 }
 
 /// Writes the book of the tables to the start of `out`, and its length.
@@ -71,23 +58,11 @@ pub fn write(
     out: &mut [u8],
     length: &mut u64,
 ) -> Result<(), Refusal> {
-    // SAFETY: as the module says.
-    Refusal::from_answer(unsafe {
-        sys::recovery_line_write(
-            shape.as_ptr(),
-            shape.len(),
-            sent.as_ptr(),
-            sent.len(),
-            received.as_ptr(),
-            received.len(),
-            out.as_mut_ptr(),
-            out.len(),
-            length,
-        )
-    })
+    call!(recovery_line_write [shape] [sent] [received] [mut out] length)
 }
 
-/// Tests a set: `pair` becomes 0 0 if it is consistent, and else a pair at fault.
+/// Tests a set: `pair` becomes 0 0 if it is consistent, and else the first pair (j, p) at fault, of the lowest j and for it the
+/// lowest p.
 pub fn test_set(
     shape: &[u64],
     sent: &[Counter],
@@ -95,21 +70,21 @@ pub fn test_set(
     set: &[u64],
     pair: &mut [u64],
 ) -> Result<(), Refusal> {
-    // SAFETY: as the module says.
-    Refusal::from_answer(unsafe {
-        sys::recovery_line_test_set(
-            shape.as_ptr(),
-            shape.len(),
-            sent.as_ptr(),
-            sent.len(),
-            received.as_ptr(),
-            received.len(),
-            set.as_ptr(),
-            set.len(),
-            pair.as_mut_ptr(),
-            pair.len(),
-        )
-    })
+    call!(recovery_line_test_set [shape] [sent] [received] [set] [mut pair])
+}
+
+/// Tests one checkpoint of a process against what each of sixteen is known to have sent to that process: `partner` becomes the
+/// lowest one from which it received more, and 0 exactly if there is none.
+pub fn test_checkpoint(
+    shape: &[u64],
+    sent: &[Counter],
+    received: &[Counter],
+    process: u64,
+    checkpoint: u64,
+    known: &[Counter],
+    partner: &mut u64,
+) -> Result<(), Refusal> {
+    call!(recovery_line_test_checkpoint [shape] [sent] [received] process checkpoint [known] partner)
 }
 
 /// Finds the line, and how many checkpoints are newer than the line's.
@@ -120,20 +95,7 @@ pub fn find_line(
     line: &mut [u64],
     passed: &mut u64,
 ) -> Result<(), Refusal> {
-    // SAFETY: as the module says.
-    Refusal::from_answer(unsafe {
-        sys::recovery_line_find(
-            shape.as_ptr(),
-            shape.len(),
-            sent.as_ptr(),
-            sent.len(),
-            received.as_ptr(),
-            received.len(),
-            line.as_mut_ptr(),
-            line.len(),
-            passed,
-        )
-    })
+    call!(recovery_line_find [shape] [sent] [received] [mut line] passed)
 }
 
 /// Makes a participant's first state, before its invitation.
@@ -146,22 +108,7 @@ pub fn participant_first(
     purpose: u64,
     state: &mut [u64],
 ) -> Result<(), Refusal> {
-    // SAFETY: as the module says.
-    Refusal::from_answer(unsafe {
-        sys::recovery_line_participant_first(
-            shape.as_ptr(),
-            shape.len(),
-            sent.as_ptr(),
-            sent.len(),
-            received.as_ptr(),
-            received.len(),
-            me,
-            initiator,
-            purpose,
-            state.as_mut_ptr(),
-            state.len(),
-        )
-    })
+    call!(recovery_line_participant_first [shape] [sent] [received] me initiator purpose [mut state])
 }
 
 /// A participant receives a message: its state after the step, its report, and the length for each process.
@@ -174,25 +121,7 @@ pub fn participant_receive(
     out: &mut [u8],
     lengths: &mut [u64],
 ) -> Result<(), Refusal> {
-    // SAFETY: as the module says.
-    Refusal::from_answer(unsafe {
-        sys::recovery_line_participant_receive(
-            state.as_mut_ptr(),
-            state.len(),
-            shape.as_ptr(),
-            shape.len(),
-            sent.as_ptr(),
-            sent.len(),
-            received.as_ptr(),
-            received.len(),
-            message.as_ptr(),
-            message.len(),
-            out.as_mut_ptr(),
-            out.len(),
-            lengths.as_mut_ptr(),
-            lengths.len(),
-        )
-    })
+    call!(recovery_line_participant_receive [mut state] [shape] [sent] [received] [message] [mut out] [mut lengths])
 }
 
 /// Process `me` begins: its first state, the invitations, and the length for each process.
@@ -206,25 +135,7 @@ pub fn initiator_begin(
     out: &mut [u8],
     lengths: &mut [u64],
 ) -> Result<(), Refusal> {
-    // SAFETY: as the module says.
-    Refusal::from_answer(unsafe {
-        sys::recovery_line_initiator_begin(
-            shape.as_ptr(),
-            shape.len(),
-            sent.as_ptr(),
-            sent.len(),
-            received.as_ptr(),
-            received.len(),
-            me,
-            purpose,
-            state.as_mut_ptr(),
-            state.len(),
-            out.as_mut_ptr(),
-            out.len(),
-            lengths.as_mut_ptr(),
-            lengths.len(),
-        )
-    })
+    call!(recovery_line_initiator_begin [shape] [sent] [received] me purpose [mut state] [mut out] [mut lengths])
 }
 
 /// An initiator receives a report: its state after the step, what it sends, and the length for each process.
@@ -237,25 +148,7 @@ pub fn initiator_receive(
     out: &mut [u8],
     lengths: &mut [u64],
 ) -> Result<(), Refusal> {
-    // SAFETY: as the module says.
-    Refusal::from_answer(unsafe {
-        sys::recovery_line_initiator_receive(
-            state.as_mut_ptr(),
-            state.len(),
-            shape.as_ptr(),
-            shape.len(),
-            sent.as_ptr(),
-            sent.len(),
-            received.as_ptr(),
-            received.len(),
-            message.as_ptr(),
-            message.len(),
-            out.as_mut_ptr(),
-            out.len(),
-            lengths.as_mut_ptr(),
-            lengths.len(),
-        )
-    })
+    call!(recovery_line_initiator_receive [mut state] [shape] [sent] [received] [message] [mut out] [mut lengths])
 }
 
 /// Starts a session: all machines of one search, with the invitations waiting in `strands`.
@@ -268,23 +161,7 @@ pub fn session_start(
     session: &mut [u64],
     strands: &mut [u8],
 ) -> Result<(), Refusal> {
-    // SAFETY: as the module says.
-    Refusal::from_answer(unsafe {
-        sys::recovery_line_session_start(
-            shape.as_ptr(),
-            shape.len(),
-            sent.as_ptr(),
-            sent.len(),
-            received.as_ptr(),
-            received.len(),
-            initiator,
-            purpose,
-            session.as_mut_ptr(),
-            session.len(),
-            strands.as_mut_ptr(),
-            strands.len(),
-        )
-    })
+    call!(recovery_line_session_start [shape] [sent] [received] initiator purpose [mut session] [mut strands])
 }
 
 /// Delivers the message that waits on process `p`'s strand; the replies wait then.
@@ -296,22 +173,7 @@ pub fn session_turn(
     p: u64,
     strands: &mut [u8],
 ) -> Result<(), Refusal> {
-    // SAFETY: as the module says.
-    Refusal::from_answer(unsafe {
-        sys::recovery_line_session_turn(
-            session.as_mut_ptr(),
-            session.len(),
-            shape.as_ptr(),
-            shape.len(),
-            sent.as_ptr(),
-            sent.len(),
-            received.as_ptr(),
-            received.len(),
-            p,
-            strands.as_mut_ptr(),
-            strands.len(),
-        )
-    })
+    call!(recovery_line_session_turn [mut session] [shape] [sent] [received] p [mut strands])
 }
 
 /// Searches from start to end, lowest waiting strand first: the set on which everybody ended, and how many checkpoints are newer
@@ -327,24 +189,7 @@ pub fn search(
     rounds: &mut u64,
     messages: &mut u64,
 ) -> Result<(), Refusal> {
-    // SAFETY: as the module says.
-    Refusal::from_answer(unsafe {
-        sys::recovery_line_search(
-            shape.as_ptr(),
-            shape.len(),
-            sent.as_ptr(),
-            sent.len(),
-            received.as_ptr(),
-            received.len(),
-            initiator,
-            purpose,
-            set.as_mut_ptr(),
-            set.len(),
-            newer,
-            rounds,
-            messages,
-        )
-    })
+    call!(recovery_line_search [shape] [sent] [received] initiator purpose [mut set] newer rounds messages)
 }
 
 /// Moves the line in the tables, and gives the restart order.
@@ -355,20 +200,7 @@ pub fn move_line(
     purpose: u64,
     order: &mut [u64],
 ) -> Result<(), Refusal> {
-    // SAFETY: as the module says.
-    Refusal::from_answer(unsafe {
-        sys::recovery_line_move(
-            shape.as_mut_ptr(),
-            shape.len(),
-            sent.as_mut_ptr(),
-            sent.len(),
-            received.as_mut_ptr(),
-            received.len(),
-            purpose,
-            order.as_mut_ptr(),
-            order.len(),
-        )
-    })
+    call!(recovery_line_move [mut shape] [mut sent] [mut received] purpose [mut order])
 }
 
 /// Gives the restart order that a move would give, and moves nothing.
@@ -379,18 +211,5 @@ pub fn restart_order(
     purpose: u64,
     order: &mut [u64],
 ) -> Result<(), Refusal> {
-    // SAFETY: as the module says.
-    Refusal::from_answer(unsafe {
-        sys::recovery_line_restart_order(
-            shape.as_ptr(),
-            shape.len(),
-            sent.as_ptr(),
-            sent.len(),
-            received.as_ptr(),
-            received.len(),
-            purpose,
-            order.as_mut_ptr(),
-            order.len(),
-        )
-    })
+    call!(recovery_line_restart_order [shape] [sent] [received] purpose [mut order])
 }

@@ -10,7 +10,7 @@ use std::num::NonZeroU32;
 pub struct Refusal(NonZeroU32);
 
 impl Refusal {
-    /// The refusal of a slice of words whose length is not the named one.
+    /// The refusal of a slice of words, or of sixteen counters, whose length is not the named one.
     pub const WRONG_LENGTH: Refusal = Refusal::numbered(sys::RECOVERY_LINE_WRONG_LENGTH);
     /// The refusal of a purpose that is not 1, 2 or 3.
     pub(crate) const NO_PURPOSE: Refusal = Refusal::numbered(11);
@@ -65,7 +65,7 @@ impl Refusal {
             18 => "Is a message waiting on that strand?",
             19 => "Is the event formed: its kind 1, 2 or 3, its numbers, and a partner other than the process?",
             20 => "Of a receipt: is a message underway from the partner to the process?",
-            sys::RECOVERY_LINE_WRONG_LENGTH => "A slice of words has the wrong length.",
+            sys::RECOVERY_LINE_WRONG_LENGTH => "A slice of words, or of sixteen counters, has the wrong length.",
             _ => "The specification has no such question.",
         }
     }

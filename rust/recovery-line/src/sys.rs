@@ -2,7 +2,7 @@
 //! The module [`raw`](crate::raw) has a safe function for each of these.
 
 /// The version of this interface.
-pub const RECOVERY_LINE_VERSION: u32 = 2;
+pub const RECOVERY_LINE_VERSION: u32 = 3;
 
 /// The most processes.
 pub const RECOVERY_LINE_PROCESSES: usize = 16;
@@ -129,7 +129,7 @@ pub const RECOVERY_LINE_EVENT_CHECKPOINT: u64 = 3;
 
 /// The answer of a call that accepts.
 pub const RECOVERY_LINE_ACCEPTED: u32 = 0;
-/// The answer of a call that is lent a slice of words of the wrong length.
+/// The answer of a call that is lent a slice of words, or of sixteen counters, of the wrong length.
 pub const RECOVERY_LINE_WRONG_LENGTH: u32 = 100;
 
 extern "C" {
@@ -192,6 +192,21 @@ extern "C" {
         set_len: usize,
         pair: *mut u64,
         pair_len: usize,
+    ) -> u32;
+
+    /// Tests one checkpoint of a process against a column.
+    pub fn recovery_line_test_checkpoint(
+        shape: *const u64,
+        shape_len: usize,
+        sent: *const Counter,
+        sent_len: usize,
+        received: *const Counter,
+        received_len: usize,
+        process: u64,
+        checkpoint: u64,
+        known: *const Counter,
+        known_len: usize,
+        partner: *mut u64,
     ) -> u32;
 
     /// Finds the line.

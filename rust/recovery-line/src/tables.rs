@@ -112,12 +112,56 @@ impl Tables {
         Ok(length as usize)
     }
 
-    /// Tests a set: `None` if it is consistent, else a pair (j, p) such that j's checkpoint received more from p than p's had
-    /// sent to j.
+    /// Tests a set: `None` if it is consistent, else the first pair (j, p) at fault, of the lowest j and for it the lowest p: j's
+    /// checkpoint received more from p than p's had sent to j.
     pub fn test_set(&self, set: &Set) -> Result<Option<(Process, Process)>, Refusal> {
         let mut pair = [0; RECOVERY_LINE_PAIR_WORDS];
         raw::test_set(&self.shape, &self.sent[..], &self.received[..], set.words(), &mut pair)?;
         Ok((pair != [0, 0]).then(|| (Process::new(pair[0]), Process::new(pair[1]))))
+    }
+
+    /// Tests one checkpoint of a process against what each other process is known to have sent to it, `None` for "not known",
+    /// which permits everything: the lowest one from which it received more, `None` exactly if there is none.
+    ///
+    /// ```
+    /// use recovery_line::{Checkpoint, Count, Process, Tables};
+    ///
+    /// # fn main() -> Result<(), recovery_line::Refusal> {
+    /// let tables = Tables::read(&[
+    ///     3, 2, 0, 0, 0, 0, 0, 0, 4, 5, // process 1 received 4 from process 2 and 5 from 3
+    ///     2, 0, 0, 0, 0, 3, 0, 0, 0, // process 2 sent it 3
+    ///     2, 0, 0, 0, 0, 7, 0, 0, 0, // process 3 sent it 7
+    /// ])?;
+    /// let (one, two, newest) = (Process::new(1), Process::new(2), Checkpoint::new(2));
+    /// // Why can process 1 not stay on its newest checkpoint, where the others stay on theirs?
+    /// let why = tables.test_checkpoint(one, newest, |partner| tables.sent_to(partner, newest, one))?;
+    /// assert_eq!(why, Some(two));
+    /// // Its oldest has received nothing.
+    /// assert_eq!(tables.test_checkpoint(one, Checkpoint::OLDEST, |_| Some(Count::new(0)))?, None);
+    /// // While nothing is known, nothing is against it.
+    /// assert_eq!(tables.test_checkpoint(one, newest, |_| None)?, None);
+    /// # Ok(())
+    /// # }
+    /// ```
+    pub fn test_checkpoint(
+        &self,
+        process: Process,
+        checkpoint: Checkpoint,
+        known: impl Fn(Process) -> Option<Count>,
+    ) -> Result<Option<Process>, Refusal> {
+        let column: [Counter; RECOVERY_LINE_PROCESSES] =
+            std::array::from_fn(|place| Count::entry(known(Process::new(place as u64 + 1))));
+        let mut partner = 0;
+        raw::test_checkpoint(
+            &self.shape,
+            &self.sent[..],
+            &self.received[..],
+            process.number(),
+            checkpoint.number(),
+            &column,
+            &mut partner,
+        )?;
+        Ok((partner != 0).then_some(Process::new(partner)))
     }
 
     /// Finds the line: the consistent set that is nowhere earlier than any other.

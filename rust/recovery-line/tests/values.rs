@@ -21,7 +21,7 @@ fn a_refusal_says_its_question() {
     assert_eq!(refusal.to_string(), "question 7: Is it zero, in an oldest checkpoint?");
     assert_eq!(
         Refusal::WRONG_LENGTH.to_string(),
-        "100: A slice of words has the wrong length."
+        "100: A slice of words, or of sixteen counters, has the wrong length."
     );
     let as_error: Box<dyn Error + Send + Sync> = refusal.into();
     assert_eq!(as_error.to_string(), refusal.to_string());

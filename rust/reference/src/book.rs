@@ -188,6 +188,12 @@ impl<'a> Book<'a> {
         at_most(self.received(process, checkpoint), known)
     }
 
+    /// The lowest partner from which the checkpoint received more than the sent counter in `known`.
+    pub fn offending_partner(&self, process: usize, checkpoint: usize, known: &Row) -> Option<usize> {
+        let received = self.received(process, checkpoint).iter();
+        received.zip(known).position(|(received, known)| received > known)
+    }
+
     /// The newest checkpoint up to `candidate` "whose received counters are at most the known sent
     /// counters". The oldest one received nothing, so there always is one.
     pub fn newest_permitted(&self, process: usize, candidate: usize, known: &Row) -> usize {

@@ -1,4 +1,5 @@
-//! The recovery line of checkpointing processes: document 01, and of document 02 the journal (E1), in plain Rust.
+//! The recovery line of checkpointing processes: document 01, and of document 02 the journal (E1) and
+//! the first pair at fault (E3), in plain Rust.
 //!
 //! Each call puts the questions of 01 and 02 that concern it, in turn. A refusal is `Err` with the number
 //! of the first question that fails, and changes nothing lent or owned. No call relies on an
@@ -24,7 +25,7 @@ pub mod words;
 pub use book::{check, read, write, Counter, Shape, BOOK_BYTES, CHECKPOINTS, ENTRIES, MARK, PROCESSES};
 pub use initiator::{initiator_begin, initiator_receive, Initiator, Matrix};
 pub use journal::{read_journal, JOURNAL_BYTES};
-pub use line::{find_line, pairs_at_fault, test_set};
+pub use line::{find_line, test_checkpoint, test_set};
 pub use machine::TALLY_LIMIT;
 pub use participant::{participant_first, participant_receive, Participant, BEFORE, ENDED, SEARCHING};
 pub use restart::{move_line, restart_order, Order};

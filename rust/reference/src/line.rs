@@ -1,6 +1,7 @@
-//! The line: testing a named set, and finding the line.
+//! The line: testing a named set or one checkpoint, and finding the line.
 
-use crate::book::{others, Book, Counter, Row, Shape, PROCESSES};
+use crate::book::{Book, Counter, Row, Shape, PROCESSES};
+use crate::machine::process_question;
 
 /// Question 12 of a set: "In a set or line, absent processes have 0; anything else there fails
 /// question 12."
@@ -14,23 +15,13 @@ fn set_question(book: &Book, set: &[u64; PROCESSES]) -> Result<[usize; PROCESSES
     }
 }
 
-/// The pairs (j, p) at fault, from 0: "what j's checkpoint received from p" is more than "what p's
-/// sent to j".
-fn faults<'a>(book: &'a Book, set: &'a [usize; PROCESSES]) -> impl Iterator<Item = (usize, usize)> + 'a {
-    (0..book.n).flat_map(move |j| {
-        let received = book.received(j, set[j]);
-        others(book.n, j)
-            .filter(move |&p| received[p] > book.sent(p, set[p])[j])
-            .map(move |p| (j, p))
-    })
+/// Numbers a process from 1.
+fn named(process: usize) -> u64 {
+    process as u64 + 1
 }
 
-/// Numbers a pair of processes from 1.
-fn named((j, p): (usize, usize)) -> (u64, u64) {
-    (j as u64 + 1, p as u64 + 1)
-}
-
-/// Tests a set: `None` if it is consistent, else a pair (j, p) at fault. Questions 2, 4 to 9, 12.
+/// Tests a set: `None` if it is consistent, else the pair (j, p) at fault with "the lowest j, and for
+/// it the lowest p" (E3). Questions 2, 4 to 9, 12.
 pub fn test_set(
     shape: &Shape,
     sent: &[Counter],
@@ -38,21 +29,30 @@ pub fn test_set(
     set: &[u64; PROCESSES],
 ) -> Result<Option<(u64, u64)>, u32> {
     let book = Book::accepted(shape, sent, received)?;
-    let set = set_question(&book, set)?;
-    let first_fault = faults(&book, &set).next();
-    Ok(first_fault.map(named))
+    let candidates = Candidates::on(&book, set_question(&book, set)?);
+    let first_fault = (0..book.n).find_map(|j| Some((j, candidates.offender_of(j)?)));
+    Ok(first_fault.map(|(j, p)| (named(j), named(p))))
 }
 
-/// All pairs (j, p) at fault of a set, rising. Questions 2, 4 to 9, 12.
-pub fn pairs_at_fault(
+/// "The test of one checkpoint against a column names its lowest offending partner" (E3): the lowest
+/// from which it received more than is known to have been sent, `None` if there is none. Questions 2,
+/// 4 to 10, 12.
+pub fn test_checkpoint(
     shape: &Shape,
     sent: &[Counter],
     received: &[Counter],
-    set: &[u64; PROCESSES],
-) -> Result<Vec<(u64, u64)>, u32> {
+    process: u64,
+    checkpoint: u64,
+    known: &[Counter; PROCESSES],
+) -> Result<Option<u64>, u32> {
     let book = Book::accepted(shape, sent, received)?;
-    let set = set_question(&book, set)?;
-    Ok(faults(&book, &set).map(named).collect())
+    process_question(book.n, process)?;
+    let own = process as usize - 1;
+    if !book.has(own, checkpoint) {
+        return Err(12);
+    }
+    let offender = book.offending_partner(own, checkpoint as usize, known);
+    Ok(offender.map(named))
 }
 
 /// A checkpoint of each process, with its rows; zeros for absent processes.
@@ -64,16 +64,16 @@ struct Candidates<'a> {
 }
 
 impl<'a> Candidates<'a> {
-    /// Every process at its newest checkpoint.
-    fn newest(book: &'a Book) -> Self {
-        let mut newest = Candidates {
+    /// Every process at its checkpoint of a set.
+    fn on(book: &'a Book, set: [usize; PROCESSES]) -> Self {
+        let mut candidates = Candidates {
             book,
-            set: book.counts,
+            set,
             sent: [&[0; PROCESSES]; PROCESSES],
             received: [&[0; PROCESSES]; PROCESSES],
         };
-        (0..book.n).for_each(|j| newest.take(j, book.counts[j]));
-        newest
+        (0..book.n).for_each(|j| candidates.take(j, set[j]));
+        candidates
     }
 
     /// Process j takes this checkpoint.
@@ -93,10 +93,11 @@ impl<'a> Candidates<'a> {
         bits
     }
 
-    /// Whether j received more from somebody than that one has sent.
-    fn is_hurt(&self, j: usize) -> bool {
+    /// The lowest process from which j received more than that one has sent.
+    fn offender_of(&self, j: usize) -> Option<usize> {
         let sent = self.sent[..self.book.n].iter();
-        sent.zip(self.received[j]).any(|(row, &received)| received > row[j])
+        sent.zip(self.received[j])
+            .position(|(row, &received)| received > row[j])
     }
 }
 
@@ -105,13 +106,13 @@ impl<'a> Candidates<'a> {
 /// nowhere earlier than any other consistent set". A step is looked at twice, row by row: whom it
 /// hurts, and whether it was enough.
 pub(crate) fn line_of(book: &Book) -> [usize; PROCESSES] {
-    let mut candidates = Candidates::newest(book);
+    let mut candidates = Candidates::on(book, book.counts);
     let mut hurt = (0..book.n).fold(0, |bits, j| bits | candidates.hurt_by(j));
     while hurt != 0 {
         let j = hurt.trailing_zeros() as usize;
         candidates.take(j, candidates.set[j] - 1);
         hurt |= candidates.hurt_by(j);
-        if !candidates.is_hurt(j) {
+        if candidates.offender_of(j).is_none() {
             hurt &= !(1 << j);
         }
     }

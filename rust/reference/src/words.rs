@@ -1,7 +1,8 @@
 //! The calls over 64-bit words, with the parameters of `include/recovery_line.h`.
 //!
 //! Each answers 0 if it accepts, and else the number of the first question that fails; it writes
-//! only if it accepts. A slice of words of the wrong length is refused first of all.
+//! only if it accepts. A slice of words, or of sixteen counters, of the wrong length is refused first of
+//! all.
 
 use crate::book::{self, Book, Counter};
 use crate::layout::{shape_of, Decoder, Encoder};
@@ -13,7 +14,7 @@ pub use crate::layout::{
     PARTICIPANT_WORDS, SESSION_WORDS, SET_WORDS, SHAPE_WORDS,
 };
 
-/// The answer to a slice of words of the wrong length.
+/// The answer to a slice of words, or of sixteen counters, of the wrong length.
 pub const WRONG_LENGTH: u32 = 100;
 
 fn length_question(words: &[u64], length: usize) -> Result<(), u32> {
@@ -74,6 +75,25 @@ pub fn test_set(shape: &[u64], sent: &[Counter], received: &[Counter], set: &[u6
         let set = set.try_into().map_err(|_| WRONG_LENGTH)?;
         let (j, p) = line::test_set(&shape_of(shape), sent, received, set)?.unwrap_or((0, 0));
         pair.copy_from_slice(&[j, p]);
+        Ok(())
+    })
+}
+
+/// `recovery_line_test_checkpoint`: `partner` becomes 0 if there is none.
+pub fn test_checkpoint(
+    shape: &[u64],
+    sent: &[Counter],
+    received: &[Counter],
+    process: u64,
+    checkpoint: u64,
+    known: &[Counter],
+    partner: &mut u64,
+) -> u32 {
+    answer(|| {
+        length_question(shape, SHAPE_WORDS)?;
+        let known = known.try_into().map_err(|_| WRONG_LENGTH)?;
+        let offender = line::test_checkpoint(&shape_of(shape), sent, received, process, checkpoint, known)?;
+        *partner = offender.unwrap_or(0);
         Ok(())
     })
 }

@@ -73,10 +73,6 @@ fn example_1_of_k() {
     let t = read_hex(K1).unwrap();
     let all_newest = set(&[2, 2, 2]);
     assert_eq!(test_set(&t.shape, &t.sent, &t.received, &all_newest), Ok(Some((1, 2))));
-    assert_eq!(
-        pairs_at_fault(&t.shape, &t.sent, &t.received, &all_newest),
-        Ok(vec![(1, 2)])
-    );
     assert_eq!(test_set(&t.shape, &t.sent, &t.received, &set(&[1, 2, 2])), Ok(None));
     assert_eq!(test_set(&t.shape, &t.sent, &t.received, &set(&[1, 2, 3])), Err(12));
     assert_eq!(test_set(&t.shape, &t.sent, &t.received, &set(&[1, 2, 2, 1])), Err(12));

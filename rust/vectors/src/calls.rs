@@ -6,13 +6,21 @@ use crate::machine::Role;
 use crate::tables::{Lent, Tables};
 use recovery_line::{sys, Counter};
 
-/// Calls a function with slices, then values, then slices; a slice is passed as its pointer and its length.
+/// Calls a function with slices, then values, then slices, and perhaps values again; a slice is passed as its pointer and its
+/// length.
 macro_rules! call {
-    ($function:expr, [$($slice:expr),*], [$($value:expr),*], [$($last:expr),*]) => {{
+    ($function:expr, [$($slice:expr),*], [$($value:expr),*], [$($last:expr),*] $(, [$($number:expr),*])?) => {{
         let function = $function;
         // SAFETY: every pointer is that of cells of its own, which are initialised, live until the call is back, and
         // are as many as the length says; every value that is a pointer is that of a number of the caller's.
-        unsafe { function($($slice.pointer(), $slice.len(),)* $($value,)* $($last.pointer(), $last.len(),)*) }
+        unsafe {
+            function(
+                $($slice.pointer(), $slice.len(),)*
+                $($value,)*
+                $($last.pointer(), $last.len(),)*
+                $($($number,)*)?
+            )
+        }
     }};
 }
 
@@ -95,6 +103,21 @@ pub fn test_set(lent: Lent, set: &[u64], pair: &mut [u64]) -> u32 {
     t.expect_same(lent);
     set_cells.expect_same(set);
     cells.put_into(pair);
+    question
+}
+
+pub fn test_checkpoint(lent: Lent, process: u64, checkpoint: u64, known: &[Counter], partner: &mut u64) -> u32 {
+    let mut t = Reading::of(lent);
+    let mut cells = Cells::of(known);
+    let question = call!(
+        sys::recovery_line_test_checkpoint,
+        [t.shape, t.sent, t.received],
+        [process, checkpoint],
+        [cells],
+        [partner]
+    );
+    t.expect_same(lent);
+    cells.expect_same(known);
     question
 }
 

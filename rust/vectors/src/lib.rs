@@ -14,6 +14,7 @@ pub mod machine;
 pub mod mail;
 pub mod session;
 pub mod session_edits;
+pub mod sets;
 pub mod strands;
 pub mod tables;
 pub mod text;

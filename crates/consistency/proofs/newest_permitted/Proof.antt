@@ -21,8 +21,8 @@ abbrev μ-loop : tie.MeasureT-loop
 loop-holds : tie.Need-loop-holds Inv-loop μ-loop
 loop-holds c = (omega arith, refl)
 
-test-checkpoint-requires : tie.Need-test-checkpoint-requires Inv-loop μ-loop
-test-checkpoint-requires c κs =
+test-row-requires : tie.Need-test-row-requires Inv-loop μ-loop
+test-row-requires c κs =
     let pre = c .before .before .before .pre in
     (pre .0, (omega arith, omega arith))
 
@@ -38,7 +38,7 @@ returns c =
     sym
     (at-loop .loop .inv .1
     ∙ newest-here (a .rows .shape .n) rows (counters (a .known)) r (omega arith)
-    (sym (permits-is (a .rows .shape .n) (rows r) (counters (a .known)) (c .before .before .test-checkpoint .result) (c .before .before .test-checkpoint .ensures))
+    (sym (permits-is (a .rows .shape .n) (rows r) (counters (a .known)) (c .before .before .test-row .result) (c .before .before .test-row .ensures))
     ∙ sym (c .before .is-permitted .ensures)
     ∙ c .if1 .taken))
 
@@ -57,7 +57,7 @@ loop-again c =
       omega arith,
       at-loop .loop .inv .1
           ∙ newest-back (a .rows .shape .n) rows (counters (a .known)) r (omega arith)
-          (sym (permits-is (a .rows .shape .n) (rows r) (counters (a .known)) (c .before .before .test-checkpoint .result) (c .before .before .test-checkpoint .ensures))
+          (sym (permits-is (a .rows .shape .n) (rows r) (counters (a .known)) (c .before .before .test-row .result) (c .before .before .test-row .ensures))
           ∙ sym (c .before .is-permitted .ensures)
           ∙ c .if1 .left),
     )
@@ -79,7 +79,7 @@ newest-permitted-spec =
     Inv-loop
     μ-loop
     loop-holds
-    test-checkpoint-requires
+    test-row-requires
     is-permitted-requires
     returns
     sub-r

@@ -1,115 +1,104 @@
--- `test_checkpoint` meets its contract. The invariant: from the partners so far no more was received than is known to be
--- sent.
-use mathlib.Core.Path.{_≡_}
-use Prim.Native.Nat.{_-_, _≤_, _<_}
-use native.Mathlib.Omega.{arith}
+-- `test_checkpoint` meets its contract.
+use mathlib.Core.Path.{_≡_, sym, ap, subst, _∙_}
+use Prim.Native.Nat.{_-_, _≤_}
 use borrow.Author.Needs.{needs}
-use lib.ListN.{length, getD}
-use Rattle.book.specs.View.{counterFrom}
-use Rattle.book.specs.Starts.{RowStart}
-use Rattle.book.proofs.Starts.{placed-first, placed-row}
-use Rattle.line_theory.proofs.Tests.{permitted-out}
-use Rattle.lists.proofs.Before.{Before, before-none, before-more, before-all}
-use Rattle.consistency.specs.Known.{counters}
-use Rattle.consistency.proofs.Permits.{known-here, offends}
+use lib.ListN.{length}
+use Rattle.book.specs.declared.Shape.{Shape}
+use Rattle.book.specs.Lent.{lent}
+use Rattle.book.specs.View.{count, R}
+use Rattle.book.specs.Accepted.{AreAccepted}
+use Rattle.book.proofs.Starts.{rows-accepted}
+use Rattle.line_theory.specs.Search.{lowestOffending}
+use Rattle.line_theory.proofs.Accepted.{accepted-few}
+use Rattle.consistency.specs.declared.Permission.{Permission}
+use Rattle.consistency.specs.Known.{counters, offending}
+use Rattle.consistency.specs.Given.{permissionOf}
+use Rattle.consistency.proofs.Answers.{column-permitted, column-offends, column-refused}
+use Rattle.consistency.proofs.Calls.{received-whole, Asked, column-passed, column-answered}
 use Rattle.consistency.proofs.test_checkpoint.Statement.{statement}
 use Rattle.consistency.proofs.test_checkpoint.Tie as tie
 
-abbrev Inv-loop : tie.InvT-loop
-Inv-loop received r known n place first p₀ p = Before n (λ q. counterFrom received first (r .0) q ≤ counters known q) p
+column-question-requires : tie.Need-column-question-requires
+column-question-requires c κs = search needs
 
-abbrev μ-loop : tie.MeasureT-loop
-μ-loop received r known n place first p₀ p = n - p
-
-sub-place : tie.Need-sub-place Inv-loop μ-loop
-sub-place c = search needs
-
-mul-first : tie.Need-mul-first Inv-loop μ-loop
-mul-first c = omega arith
-
-array-read-first : tie.Need-array-read-first Inv-loop μ-loop
-array-read-first c = omega arith
-
-loop-holds : tie.Need-loop-holds Inv-loop μ-loop
-loop-holds c = before-none
-
--- where the first row is taken out
-there : (c : tie.After-struct-known Inv-loop μ-loop) → let a = c .before .before .before .before .args in
-    a .j .0 - 1 < length (a .rows .shape .counts)
-there c =
-    let a = c .before .before .before .before .args in
-    let long : length (a .rows .shape .counts) ≡ 16 = search needs in
-    omega arith
-
-begins : (c : tie.After-struct-known Inv-loop μ-loop) → let a = c .before .before .before .before .args in
-    RowStart (a .rows .shape .counts) (a .j .0 - 1) (getD (a .rows .first) (a .j .0 - 1) 0)
-begins c =
-    let at = c .before .before .before .before in
-    placed-first (at .pre .0 .0 .placed) (at .args .j .0 - 1) (there c)
-
-add-sent : tie.Need-add-sent Inv-loop μ-loop
-add-sent c = omega arith
-
-counter-requires : tie.Need-counter-requires Inv-loop μ-loop
-counter-requires c κs =
-    let at = c .before .before .before .before .before .before in (
-      placed-row (at .pre .0 .0 .placed) (at .args .j .0 - 1) (there (c .before .before)) (at .args .r .0) (at .pre .1),
-      (omega arith, (omega arith, at .pre .0 .0 .long)),
-    )
-
-mul-sent : tie.Need-mul-sent Inv-loop μ-loop
-mul-sent c = omega arith
-
-array-copy-out-sent : tie.Need-array-copy-out-sent Inv-loop μ-loop
-array-copy-out-sent c = omega arith
-
-add-t25 : tie.Need-add-t25 Inv-loop μ-loop
-add-t25 c = omega arith
-
-returns : tie.Need-returns Inv-loop μ-loop
+returns : tie.Need-returns
 returns c =
-    let at-loop = c .before .before .before .before .before .before in
-    let a = at-loop .before .before .before .before .before .args in
-    rw (← begins (at-loop .before)) (offends (a .rows .shape .n) (λ p. counterFrom (a .received .now) _ (a .r .0) p) (counters (a .t5))
-    (at-loop .loop .p) (omega arith) (omega (arith, c .before .before .before .before .counter .ensures)))
+    let a = c .before .before .before .before .args in
+    let t = lent (a .shape) (a .sent .now) (a .received .now) in
+    let question = c .before .column-question in
+    column-answered t (a .j .0) (a .r .0) (a .known) (question .result) (question .ensures)
+    (column-refused (question .result) (offending t (a .j .0) (a .r .0) (counters (a .known))) (c .if1 .taken))
 
-add-p : tie.Need-add-p Inv-loop μ-loop
-add-p c = omega arith
+-- what is known once no question refuses
+asked : (c : tie.Else1)
+    → let a = c .before .before .before .before .args in
+    Asked (lent (a .shape) (a .sent .now) (a .received .now)) (a .j .0) (a .r .0)
+asked c =
+    let a = c .before .before .before .before .args in
+    column-passed (lent (a .shape) (a .sent .now) (a .received .now)) (a .j .0) (a .r .0) (sym (c .before .column-question .ensures) ∙ c .if1 .left)
 
-loop-less : tie.Need-loop-less Inv-loop μ-loop
-loop-less c = search needs
+counts-long : (c : tie.Start) → length (c .args .shape .counts) ≡ 16
+counts-long c = search needs
 
-loop-again : tie.Need-loop-again Inv-loop μ-loop
-loop-again c =
-    let at-loop = c .before .before .before .before .before .before in
-    let a = at-loop .before .before .before .before .before .args in
-    before-more (at-loop .loop .inv) (omega arith)
-    (known-here (λ p. counterFrom (a .received .now) (getD (a .rows .first) (a .j .0 - 1) 0) (a .r .0) p) (counters (a .t5)) (at-loop .loop .p)
-    (omega (arith, c .before .before .before .before .counter .ensures)))
+accepted : (c : tie.Else1) → let a = c .before .before .before .before .args in AreAccepted (lent (a .shape) (a .sent .now) (a .received .now))
+accepted c = record { sixteen = counts-long (c .before .before .before .before); passed = asked c .tables }
 
-returns-2 : tie.Need-returns-2 Inv-loop μ-loop
-returns-2 c =
+rows-of-requires : tie.Need-rows-of-requires
+rows-of-requires c κs = accepted-few (accepted c)
+
+test-row-requires : tie.Need-test-row-requires
+test-row-requires c κs =
+    let a = c .before .before .before .before .before .args in
+    let given = rows-accepted (accepted (c .before)) (c .rows-of .ensures) in
+    let there = asked (c .before) in
+    let named
+    = subst (λ (s : Shape). ((1 ≤ a .j .0) × (a .j .0 ≤ s .n)) × ((1 ≤ a .r .0) × (a .r .0 ≤ count s (a .j .0 - 1))))
+    (sym (c .rows-of .ensures .0)) (there .process, there .checkpoint) in
+    ((received-whole given, named .0), named .1)
+
+enum-told : tie.Need-enum-told
+enum-told c = search needs
+
+enum-known-permission : tie.Need-enum-known-permission
+enum-known-permission c = search needs
+
+-- what the test of the row says of the tables
+told : (c : tie.After-test-row)
+    → let a = c .before .before .before .before .before .before .args in
+    c .test-row .result ≡ permissionOf (offending (lent (a .shape) (a .sent .now) (a .received .now)) (a .j .0) (a .r .0) (counters (a .known)))
+told c =
     let a = c .before .before .before .before .before .before .args in
-    rw (← begins (c .before .before)) (permitted-out (a .rows .shape .n) (λ p. counterFrom (a .received .now) _ (a .r .0) p) (counters (a .t5))
-    (before-all (c .before .loop .inv) (omega arith)))
+    let of : Shape → Permission
+    = λ s. permissionOf (lowestOffending (s .n) (λ p. R s (a .received .now) (a .j .0 - 1) (a .r .0) p) (counters (a .known))) in
+    c .test-row .ensures ∙ ap of (c .before .rows-of .ensures .0)
+
+returns-2 : tie.Need-returns-2
+returns-2 c =
+    let at = c .before .before in
+    let a = at .before .before .before .before .before .before .args in
+    let t = lent (a .shape) (a .sent .now) (a .received .now) in
+    let question = at .before .before .before .column-question in
+    column-answered t (a .j .0) (a .r .0) (a .known) 0 (sym (at .before .before .if1 .left) ∙ question .ensures)
+    (column-permitted (offending t (a .j .0) (a .r .0) (counters (a .known))) (sym (c .enum-told .given .1) ∙ told at))
+
+returns-3 : tie.Need-returns-3
+returns-3 c =
+    let at = c .before .before .before in
+    let a = at .before .before .before .before .before .before .args in
+    let t = lent (a .shape) (a .sent .now) (a .received .now) in
+    let question = at .before .before .before .column-question in
+    column-answered t (a .j .0) (a .r .0) (a .known) 0 (sym (at .before .before .if1 .left) ∙ question .ensures)
+    (column-offends (offending t (a .j .0) (a .r .0) (counters (a .known))) (c .before .permission .given .0 .0) (sym (c .before .permission .given .1) ∙ told at))
 
 pub test-checkpoint-spec : {M : Type 1} → statement M
 test-checkpoint-spec =
     tie.close
     (tie.spec
-    Inv-loop
-    μ-loop
-    sub-place
-    mul-first
-    array-read-first
-    loop-holds
-    add-sent
-    counter-requires
-    mul-sent
-    array-copy-out-sent
-    add-t25
+    column-question-requires
     returns
-    add-p
-    loop-less
-    loop-again
-    returns-2)
+    rows-of-requires
+    test-row-requires
+    enum-told
+    enum-known-permission
+    returns-2
+    returns-3)

@@ -1,24 +1,21 @@
--- `test_pairs` meets its contract. The invariant: every checkpoint so far is permitted.
-use mathlib.Core.Path.{_≡_}
-use mathlib.Core.Bool.{true}
+-- `test_pairs` meets its contract. The invariant: nobody offends any checkpoint so far.
 use Prim.Native.Nat.{_-_}
 use native.Mathlib.Omega.{arith}
 use borrow.Author.Needs.{needs}
 use Rattle.book.specs.Lent.{lent}
-use Rattle.line_theory.specs.Search.{permitted, sentTo}
 use Rattle.line_theory.specs.OfTables.{viewOf}
 use Rattle.lists.proofs.Before.{Before, before-none, before-more, before-all}
 use Rattle.line_theory.proofs.Accepted.{accepted-book}
 use Rattle.consistency.specs.Set.{chosen}
 use Rattle.consistency.proofs.Calls.{named-is-set}
-use Rattle.consistency.proofs.Pairs.{pair-shown, pair-none, pairs-none}
+use Rattle.consistency.proofs.Pairs.{noneOffends, pair-shown, pair-none, pairs-none}
 use Rattle.consistency.proofs.test_pairs.Statement.{statement}
 use Rattle.consistency.proofs.test_pairs.Tie as tie
 
 abbrev Inv-loop : tie.InvT-loop
 Inv-loop rows sent received set n j₀ j =
     let v = viewOf (lent (rows .shape) sent received) in
-    Before n (λ i. permitted (v .n) (v .R i (chosen set i)) (sentTo v (chosen set) i) ≡ true) j
+    Before n (noneOffends v (chosen set)) j
 
 abbrev μ-loop : tie.MeasureT-loop
 μ-loop rows sent received set n j₀ j = n - j
@@ -43,7 +40,7 @@ returns c =
     let at-loop = c .before .before .before .before .before in
     let pre = at-loop .before .before .before .before .pre in
     let told = c .before .before .before .test-in-set in
-    pair-shown (at-loop .loop .j) (told .result) (c .before .permission .given .0 .0) (accepted-book (pre .0 .accepted)) (named-is-set (pre .1)) (omega arith) (c .before .permission .given .1) (told .ensures)
+    pair-shown (at-loop .loop .j) (told .result) (c .before .permission .given .0 .0) (accepted-book (pre .0 .accepted)) (named-is-set (pre .1)) (at-loop .loop .inv) (omega arith) (c .before .permission .given .1) (told .ensures)
 
 enum-told : tie.Need-enum-told Inv-loop μ-loop
 enum-told c = search needs

@@ -1,5 +1,5 @@
 -- `test_set` meets its contract.
-use mathlib.Core.Path.{_≡_, sym, subst, _∙_}
+use mathlib.Core.Path.{_≡_, sym, ap, subst, _∙_}
 use mathlib.Core.Bool.{true}
 use borrow.Author.Needs.{needs}
 use borrow.Author.Tests.{not-true, not-false}
@@ -8,11 +8,13 @@ use Rattle.book.specs.declared.Shape.{Shape}
 use Rattle.book.specs.Lent.{lent}
 use Rattle.book.specs.Accepted.{AreAccepted}
 use Rattle.book.proofs.Starts.{rows-accepted}
+use Rattle.line_theory.specs.Sets.{firstFault}
 use Rattle.line_theory.specs.OfTables.{viewOf}
 use Rattle.line_theory.proofs.Accepted.{accepted-size, accepted-few}
-use Rattle.consistency.specs.Set.{chosen, allThere}
-use Rattle.consistency.specs.Given.{AllNamed, Paired}
-use Rattle.consistency.proofs.Calls.{test-refused, test-missing, test-asked, test-pairs}
+use Rattle.consistency.specs.declared.SetAnswer.{SetAnswer}
+use Rattle.consistency.specs.Set.{chosen, allThere, shownAs}
+use Rattle.consistency.specs.Given.{AllNamed}
+use Rattle.consistency.proofs.Calls.{test-refused, test-missing, test-shown}
 use Rattle.consistency.proofs.There.{there-present}
 use Rattle.consistency.proofs.test_set.Statement.{statement}
 use Rattle.consistency.proofs.test_set.Tie as tie
@@ -59,9 +61,9 @@ returns-3 : tie.Need-returns-3
 returns-3 c =
     let a = c .before .before .before .before .before .before .before .before .args in
     let there = c .before .before in
-    test-pairs (lent (a .shape) (a .sent .now) (a .received .now)) (a .set) (c .test-pairs .result)
-    (test-asked (lent (a .shape) (a .sent .now) (a .received .now)) (a .set) (accepted there .passed) (all-named there))
-    (subst (λ (t : Shape). Paired (viewOf (lent t (a .sent .now) (a .received .now))) (chosen (a .set)) (c .test-pairs .result)) (c .before .rows-of .ensures .0) (c .test-pairs .ensures))
+    let shown : Shape → SetAnswer = λ t. shownAs (firstFault (viewOf (lent t (a .sent .now) (a .received .now))) (chosen (a .set))) in
+    test-shown (lent (a .shape) (a .sent .now) (a .received .now)) (a .set) (accepted there .passed) (all-named there)
+    (c .test-pairs .ensures ∙ ap shown (c .before .rows-of .ensures .0))
 
 pub test-set-spec : {M : Type 1} → statement M
 test-set-spec =

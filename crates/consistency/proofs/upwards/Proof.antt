@@ -46,8 +46,8 @@ loop-holds c = let pre = c .before .before .before .before .pre in (pre .1 .1 .0
 add-t17 : tie.Need-add-t17 Inv-loop μ-loop
 add-t17 c = omega (arith, few c)
 
-test-checkpoint-requires : tie.Need-test-checkpoint-requires Inv-loop μ-loop
-test-checkpoint-requires c κs =
+test-row-requires : tie.Need-test-row-requires Inv-loop μ-loop
+test-row-requires c κs =
     let pre = c .before .before .before .before .before .before .pre in
     (pre .0, (omega arith, omega arith))
 
@@ -61,7 +61,7 @@ next-told : (c : tie.After-is-permitted Inv-loop μ-loop) → let at-loop = c .b
 next-told c =
     let at-loop = c .before .before .before in
     let at = at-loop .before .before .before .before .before in
-    let tested = c .before .test-checkpoint in
+    let tested = c .before .test-row in
     sym (c .is-permitted .ensures
     ∙ permits-is (at .args .rows .shape .n) (received-by at (at-loop .loop .last + 1)) (counters (at .args .known)) (tested .result) (tested .ensures))
 
@@ -105,7 +105,7 @@ upwards-spec =
     array-read-count
     loop-holds
     add-t17
-    test-checkpoint-requires
+    test-row-requires
     is-permitted-requires
     returns
     add-last

@@ -16,7 +16,8 @@ use std::time::Instant;
 /// Cases of the gate.
 const GATE_CASES: u64 = 400_000;
 
-/// Cases from which on every answer of every call, and every size of a journal, must have been met.
+/// Cases from which on every answer of every call, every size of a journal, and sets and checkpoints with and without a fault
+/// must have been met.
 const ENOUGH_CASES: u64 = 100_000;
 
 /// What the command line asks for.
@@ -106,6 +107,7 @@ fn report(runner: &Runner) -> bool {
     let (sessions, ended, claims) = (runner.claimed_sessions, runner.ended_sessions, runner.claims);
     println!("demand 3: {sessions} sessions, {ended} of them to their end, {claims} times asserted");
     println!("journals: {}", runner.journals);
+    println!("pairs: {}", runner.pairs);
     let missing = runner.missing();
     if runner.tally.cases >= ENOUGH_CASES && !missing.is_empty() {
         println!("what no case had: {}", missing.join(", "));
@@ -131,6 +133,7 @@ fn run_seeds(first: u64, cases: u64, seconds: f64) -> bool {
         total.ended_sessions += runner.ended_sessions;
         total.claims += runner.claims;
         total.journals.merge(&runner.journals);
+        total.pairs.merge(&runner.pairs);
         total.difference = runner.difference;
         if total.difference.is_some() {
             break;

@@ -6,14 +6,14 @@
 //!     measure --callgrind NAME SIDE TIMES   runs an operation; SIDE is ours, reference or neither
 //!     measure --size NAME                   what an operation of some size is measured by
 //!
-//! NAME is one of the list, or has a size: read:N:CHECKPOINTS and journal:N:BYTES (measured by bytes), check:N:T and
-//! find:N:T (by T + n), session:N:T (by turns).
+//! NAME is one of the list, or has a size: read:N:CHECKPOINTS and journal:N:BYTES (measured by bytes), set:N:T (by pairs),
+//! checkpoint:N:T (by partners), check:N:T and find:N:T (by T + n), session:N:T (by turns).
 
 use compare::benches::{Bench, Operation};
 use compare::book::Book;
 use compare::layout::JOURNAL_BYTES;
 use compare::line;
-use compare::measured_books::{dense, ring_with, typical};
+use compare::measured_books::{dense, last_pair_at_fault, ring_with, typical};
 use compare::measured_journals::{in_any_order, in_turn};
 use compare::timing::medians;
 use std::process::ExitCode;
@@ -67,6 +67,10 @@ fn largest() -> Book {
     dense(16, 256, false)
 }
 
+fn largest_at_fault() -> Book {
+    last_pair_at_fault(16, 256)
+}
+
 fn two_falling() -> Book {
     ring_with(2, 254)
 }
@@ -80,12 +84,24 @@ fn sixteen_typical() -> Book {
 }
 
 /// All of 16 processes and 256 checkpoints, but for find-254: 2 processes and 256.
-const ROWS: [Row; 18] = [
+const ROWS: [Row; 20] = [
     row("read", "the largest book", Operation::Read, largest),
     row("check", "its tables", Operation::Check, largest),
     row("write", "the largest book", Operation::Write, largest),
     JOURNAL,
     row("test_set", "a consistent set", Operation::TestSet, largest),
+    row(
+        "test_set-no",
+        "its last pair at fault",
+        Operation::TestNewest,
+        largest_at_fault,
+    ),
+    row(
+        "checkpoint",
+        "permitted by a column",
+        Operation::TestCheckpoint,
+        largest,
+    ),
     row("find-254", "2 processes, T = 254", Operation::Find, two_falling),
     row("find-240", "16 processes, T = 240", Operation::Find, sixteen_falling),
     turn("turn-down", "a poll to a participant", Operation::Turn, 36),
@@ -208,6 +224,8 @@ fn of_size(name: &str) -> Option<(Operation, Book)> {
     match operation {
         "read" => Some((Operation::Read, dense(n, size, false))),
         "check" => Some((Operation::Check, ring_with(n, size))),
+        "set" => Some((Operation::TestSet, ring_with(n, size))),
+        "checkpoint" => Some((Operation::TestCheckpoint, ring_with(n, size))),
         "find" => Some((Operation::Find, ring_with(n, size))),
         "session" => Some((Operation::Session, ring_with(n, size))),
         _ => None,
@@ -224,6 +242,8 @@ fn print_size(name: &str) -> bool {
     };
     let size = match operation {
         Operation::Read => book.bytes().len(),
+        Operation::TestSet => book.n() * (book.n() - 1),
+        Operation::TestCheckpoint => book.n() - 1,
         Operation::Session => {
             let mut bench = Bench::new(operation, &book, 0);
             bench.run_ours();
