@@ -53,21 +53,20 @@ no-pair-is-consistent v c = (
 
 -- ---- one checkpoint
 
-module _ (n : ℕ) (row known : ℕ → ℕ) where
-  abbrev offends : ℕ → Bool
-  offends p = ltb (known p) (row p)
+abbrev offends : (ℕ → ℕ) → (ℕ → ℕ) → ℕ → Bool
+offends row known p = ltb (known p) (row p)
 
 pub partner-is-lowest : PartnerIsLowest
 partner-is-lowest n row known p = (
   λ e.
-      let at = lowest-found n (offends n row known) e in
+      let at = lowest-found n (offends row known) e in
       record {
         partner = at .below;
         more = ltb-true (known p) (row p) (at .here);
         lower = λ q h. ltb-false (known q) (row q) (at .before q h);
       },
   λ at.
-      lowest-some n (offends n row known) p
+      lowest-some n (offends row known) p
       record {
         below = at .partner;
         here = lt-ltb (known p) (row p) (at .more);
@@ -77,8 +76,8 @@ partner-is-lowest n row known p = (
 
 pub none-offends-is-permitted : NoneOffendsIsPermitted
 none-offends-is-permitted n row known = (
-  λ e. permitted-out n row known (λ p m. ltb-false (known p) (row p) (lowest-found n (offends n row known) e p m)),
-  λ h. lowest-none n (offends n row known) (λ p m. le-ltb (known p) (row p) (permitted-in n row known h p m)),
+  λ e. permitted-out n row known (λ p m. ltb-false (known p) (row p) (lowest-found n (offends row known) e p m)),
+  λ h. lowest-none n (offends row known) (λ p m. le-ltb (known p) (row p) (permitted-in n row known h p m)),
 )
 
 -- In a book the lowest partner with which a process is at fault is the lowest that offends its checkpoint: it has received
@@ -86,7 +85,7 @@ none-offends-is-permitted n row known = (
 pub fault-is-offending : (m : ℕ) (v : View) (c : ℕ → ℕ) (j : ℕ) → IsBook m v → IsSet v c → j < v .n
     → lowest (v .n) (atFault v c j) ≡ lowestOffending (v .n) (v .R j (c j)) (sentTo v c j)
 fault-is-offending m v c j book there k =
-    lowest-ext (v .n) (atFault v c j) (offends (v .n) (v .R j (c j)) (sentTo v c j)) (λ p l. elim (ℕ-discrete j p) [
+    lowest-ext (v .n) (atFault v c j) (offends (v .R j (c j)) (sentTo v c j)) (λ p l. elim (ℕ-discrete j p) [
       | yes e ↦
           let none : v .R j (c j) p ≡ 0 = subst (λ (q : ℕ). v .R j (c j) q ≡ 0) e (book .own j (c j) k (there .some j k) (there .among j k) .1) in
           rw (eq-eqb j p e, le-ltb (v .S p (c p) j) (v .R j (c j) p) (omega arith))

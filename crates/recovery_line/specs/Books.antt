@@ -1,5 +1,6 @@
 -- The exported calls on books: read, check, write. Each answers 0 or the number that refuses: first `wrongLength` for a slice of words
--- of another length than its own, then the questions of the call inside. A refusal changes nothing that was lent.
+-- (or of sixteen counters, where a call is lent some) of another length than its own, then the questions of the call inside. A
+-- refusal changes nothing that was lent.
 use mathlib.Core.List.{List}
 use Prim.Native.Nat.{ℕ}
 use lib.ListN.{length}

@@ -1,7 +1,7 @@
 // The library that workers in C, C++ and Rust link: every call of documents 01 and 02 as an exported function over numbers and slices.
 // Shapes, sets, states, sessions and orders cross as words. Every call answers 0, or the number that refuses: first
-// WRONG_LENGTH for a slice of words of another length than its own, then the questions of the call inside. include/recovery_line.h
-// declares these functions; `tests/declarations` compares the two.
+// WRONG_LENGTH for a slice of words, or of sixteen counters, of another length than its own, then the questions of the call inside.
+// include/recovery_line.h declares these functions; `tests/declarations` compares the two.
 mod books;
 mod journals;
 mod lines;
@@ -16,7 +16,7 @@ ghost use lib.Dec.{eqb};
 ghost use Rattle.book.specs.InTurn.{ask};
 ghost use Rattle.words.specs.Words.{shapeLength, wrongLength};
 
-// A slice of words of another length than its own.
+// A slice of words, or of sixteen counters beside the tables, of another length than its own.
 pub const WRONG_LENGTH: u32 = 100;
 
 // Has the slice of the shape its length? 0, or WRONG_LENGTH.
