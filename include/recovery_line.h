@@ -8,6 +8,7 @@
  *   - returns 0 if it accepts, and else the number of the first question that fails;
  *   - changes nothing that was lent when it refuses: no table, state, buffer or number; and when it accepts, leaves the bytes of
  *     a buffer that it has nothing to write to;
+ *   - leaves nothing open: for each input there is one answer, and one content of all that it writes;
  *   - ends on every input, allocates nothing, keeps nothing between calls, and calls nothing outside but C's memcpy, memmove,
  *     memset and memcmp.
  *
