@@ -30,7 +30,7 @@
  * `known`; they have a table entry's type. Tables have another rule: question 2 asks their lengths.
  *   shape        n, then sixteen counts of checkpoints; 0 for absent processes.
  *   set, line    sixteen checkpoint numbers; 0 for absent processes.
- *   pair         two process numbers.
+ *   pair         two process numbers; 0 0 for none.
  *   lengths      how many bytes were written for each of sixteen processes; 0 for none.
  *   order        sixteen checkpoints restarted from, numbered as before the move; sixteen numbers of those that go before it,
  *                sixteen of those after.

@@ -47,8 +47,8 @@ module _ (shape sent received set pair : List ℕ) {q : ℕ}
     abbrev inside : ℕ
     inside = testQuestion (lent (shapeIn shape) sent received) (setIn set)
 
-    abbrev first : Option (ℕ × ℕ)
-    first = firstFault (viewOf (lent (shapeIn shape) sent received)) (chosen (setIn set))
+    abbrev pair-found : Option (ℕ × ℕ)
+    pair-found = firstFault (viewOf (lent (shapeIn shape) sent received)) (chosen (setIn set))
 
     -- the answer, and what is left in the slice
     abbrev TestedSet : ℕ → List ℕ → Type 0
@@ -65,7 +65,7 @@ module _ (shape sent received set pair : List ℕ) {q : ℕ}
     module _ (none : q ≡ 0) {given : Shape} (given-is : given ≡ shapeIn shape) {named : List Checkpoint} (named-is : named ≡ setIn set)
         (found : SetAnswer) (tested : found ≡ answerToTest (lent given sent received) named)
       where
-        of-words : {answer : SetAnswer} → found ≡ answer → shownOr inside first ≡ answer
+        of-words : {answer : SetAnswer} → found ≡ answer → shownOr inside pair-found ≡ answer
         unfolding answerToTest
         of-words e = sym (tested ∙ (λ t. answerToTest (lent (given-is t) sent received) (named-is t))) ∙ e
 
@@ -75,21 +75,21 @@ module _ (shape sent received set pair : List ℕ) {q : ℕ}
 
         pub test-refused : {r : ℕ} → found ≡ Refused r → TestedSet r pair
         test-refused {r} e =
-            let (is, some) = tells-question inside first r (of-words e) in
+            let (is, some) = tells-question inside pair-found r (of-words e) in
             test-untouched (test-answered is) some
 
-        test-left : inside ≡ 0 → {after : List ℕ} → after ≡ pairWords first → TestedSet 0 after
+        test-left : inside ≡ 0 → {after : List ℕ} → after ≡ pairWords pair-found → TestedSet 0 after
         unfolding testPair
         test-left is left = (test-answered is, put (test-answered is) pair _ refl left)
 
         pub test-consistent : found ≡ Consistent → {after : List ℕ} → after ≡ (0 ∷ (0 ∷ [])) → TestedSet 0 after
         test-consistent e left =
-            let (is, nobody) = tells-consistent inside first (of-words e) in
+            let (is, nobody) = tells-consistent inside pair-found (of-words e) in
             test-left is (left ∙ sym (ap pairWords nobody))
 
         pub test-fault : {j p : Process} → found ≡ AtFault j p → {after : List ℕ} → after ≡ (j .0 ∷ (p .0 ∷ [])) → TestedSet 0 after
         test-fault {j} {p} e left =
-            let told = tells-fault inside first j p (of-words e) in
+            let told = tells-fault inside pair-found j p (of-words e) in
             test-left (told .passed)
             (left ∙ ap₂ (λ (x y : ℕ). x ∷ (y ∷ [])) (told .first-is) (told .second-is) ∙ sym (ap pairWords (told .found)))
 
@@ -101,8 +101,8 @@ module _ (shape sent received : List ℕ) (process checkpoint : ℕ) (known : Li
     abbrev asks : ℕ
     asks = columnQuestion (lent (shapeIn shape) sent received) process checkpoint
 
-    abbrev lowest : Option ℕ
-    lowest = offending (lent (shapeIn shape) sent received) process checkpoint (counters (countsIn known))
+    abbrev partner-found : Option ℕ
+    partner-found = offending (lent (shapeIn shape) sent received) process checkpoint (counters (countsIn known))
 
     -- the answer, and the number that is left
     abbrev TestedColumn : ℕ → ℕ → Type 0
@@ -122,7 +122,7 @@ module _ (shape sent received : List ℕ) (process checkpoint : ℕ) (known : Li
         {j r : ℕ} (process-is : j ≡ process) (checkpoint-is : r ≡ checkpoint)
         (found : CheckpointAnswer) (tested : found ≡ answerToColumn (lent given sent received) j r counts)
       where
-        of-column : {answer : CheckpointAnswer} → found ≡ answer → namedOr asks lowest ≡ answer
+        of-column : {answer : CheckpointAnswer} → found ≡ answer → namedOr asks partner-found ≡ answer
         unfolding answerToColumn
         of-column e =
             sym (tested ∙ (λ t. answerToColumn (lent (given-is t) sent received) (process-is t) (checkpoint-is t) (counts-are t))) ∙ e
@@ -133,21 +133,21 @@ module _ (shape sent received : List ℕ) (process checkpoint : ℕ) (known : Li
 
         pub column-refused : {r : ℕ} → found ≡ column.Refused r → TestedColumn r partner
         column-refused {r} e =
-            let (is, some) = tells-refused asks lowest r (of-column e) in
+            let (is, some) = tells-refused asks partner-found r (of-column e) in
             column-untouched (column-answered is) some
 
-        column-left : asks ≡ 0 → {after : ℕ} → after ≡ numbered lowest → TestedColumn 0 after
+        column-left : asks ≡ 0 → {after : ℕ} → after ≡ numbered partner-found → TestedColumn 0 after
         unfolding columnPartner
         column-left is left = (column-answered is, put (column-answered is) partner _ refl left)
 
         pub column-permitted : found ≡ column.Permitted → {after : ℕ} → after ≡ 0 → TestedColumn 0 after
         column-permitted e left =
-            let (is, nobody) = tells-permitted asks lowest (of-column e) in
+            let (is, nobody) = tells-permitted asks partner-found (of-column e) in
             column-left is (left ∙ sym (ap numbered nobody))
 
         pub column-offends : {p : Process} → found ≡ column.Offends p → {after : ℕ} → after ≡ p .0 → TestedColumn 0 after
         column-offends {p} e left =
-            let (is, (i, at, number)) = tells-offends asks lowest p (of-column e) in
+            let (is, (i, at, number)) = tells-offends asks partner-found p (of-column e) in
             column-left is (left ∙ number ∙ sym (ap numbered at))
 
 -- ---- find the line
