@@ -1,33 +1,25 @@
 /*
  * Workers look for their recovery line by messages, and then move it.
  *
- *     cc -I include examples/search_and_move.c target/staticlib/librecovery_line.a -o search_and_move
- *     ./search_and_move [BOOK]
+ *     cc -std=c11 -I include examples/search_and_move.c target/staticlib/librecovery_line.a -o search_and_move
+ *     ./search_and_move
  *
- * BOOK is a file that holds a checkpoint book; without it the example takes a small one of its own. Each worker has its own
- * machine. Messages wait in one list, and the newest is delivered first: any other order ends on the same line.
+ * `./search_and_move BOOK` takes the checkpoint book in the file BOOK, and without it the example takes a small one of its own.
+ * Each worker has its own machine. Messages wait in one list, and the newest is delivered first: any other order ends on the
+ * same line.
  */
-#include "recovery_line.h"
+#include "rline.h"
 
 #include <inttypes.h>
 #include <stdio.h>
 #include <stdlib.h>
-#include <string.h>
 
-#define PROCESSES RECOVERY_LINE_PROCESSES
-#define ENTRIES RECOVERY_LINE_TABLE_ENTRIES
 #define PURPOSE RECOVERY_LINE_ADVANCE_AND_RESTART
-#define INITIATOR 1
-
-/* A slice as the library takes it: where it begins, and how many elements it has. */
-#define ARRAY(a) (a), sizeof(a) / sizeof((a)[0])
-#define TABLES ARRAY(shape), ARRAY(sent), ARRAY(received)
 
 /* A message on its way. */
 struct letter {
-    uint64_t from, to;
-    size_t length;
-    uint8_t bytes[RECOVERY_LINE_MESSAGE_BYTES(PROCESSES)];
+    rline_process from, to;
+    rline_message message;
 };
 
 /* Three processes with two checkpoints each: process 1's newest has received 4 messages from process 2, of whose sending
@@ -40,22 +32,16 @@ static const uint8_t own_book[] = {
 };
 
 /* The book in memory. */
-static uint64_t shape[RECOVERY_LINE_SHAPE_WORDS];
-static recovery_line_counter sent[ENTRIES], received[ENTRIES];
+static rline_tables tables;
 
 /* The workers' machines; process p's is participants[p - 1]. */
-static uint64_t initiator[RECOVERY_LINE_INITIATOR_WORDS];
-static uint64_t participants[PROCESSES][RECOVERY_LINE_PARTICIPANT_WORDS];
-
-enum { STAGE_ENDED = 2 };
+static const rline_process first = {1};
+static rline_initiator initiator;
+static rline_participant participants[RECOVERY_LINE_PROCESSES];
 
 /* The messages on their way: at most one between the initiator and each other worker. */
-static struct letter letters[PROCESSES];
+static struct letter letters[RECOVERY_LINE_PROCESSES];
 static size_t waiting;
-
-/* What a step writes: its messages, one after another, and the length for each process. */
-static uint8_t out[RECOVERY_LINE_STRAND_BYTES(PROCESSES)];
-static uint64_t lengths[RECOVERY_LINE_LENGTHS_WORDS];
 
 static void stop(const char *why) {
     fprintf(stderr, "%s\n", why);
@@ -64,7 +50,7 @@ static void stop(const char *why) {
 
 static void accepted(uint32_t answer) {
     if (answer != RECOVERY_LINE_ACCEPTED) {
-        fprintf(stderr, "refused by question %" PRIu32 "\n", answer);
+        fprintf(stderr, "refused by question %" PRIu32 ": %s\n", answer, recovery_line_question(answer));
         exit(EXIT_FAILURE);
     }
 }
@@ -80,7 +66,7 @@ static void print_bytes(const uint8_t *bytes, size_t length) {
 static void read_book(const char *file) {
     static uint8_t bytes[RECOVERY_LINE_BOOK_BYTES + 1]; /* one more, so that a longer book is refused */
     if (file == NULL) {
-        accepted(recovery_line_read(ARRAY(own_book), TABLES));
+        accepted(rline_read(&tables, own_book, sizeof own_book));
         return;
     }
     FILE *book = fopen(file, "rb");
@@ -93,46 +79,40 @@ static void read_book(const char *file) {
     if (failed) {
         stop("the book cannot be read");
     }
-    accepted(recovery_line_read(bytes, length, TABLES));
+    accepted(rline_read(&tables, bytes, length));
 }
 
 /* Sends what a step has written. */
-static void send_all(uint64_t from) {
-    const uint8_t *next = out;
-    for (uint64_t to = 1; to <= PROCESSES; to++) {
-        size_t length = (size_t)lengths[to - 1];
-        if (length != 0) {
-            struct letter *letter = &letters[waiting++];
-            letter->from = from;
-            letter->to = to;
-            letter->length = length;
-            memcpy(letter->bytes, next, length);
-            next += length;
+static void send_all(rline_process from, const rline_messages *out) {
+    for (uint64_t p = 1; p <= rline_processes(&tables); p++) {
+        struct letter letter = {from, {p}, rline_message_to(out, rline_process_number(p))};
+        if (letter.message.length != 0) {
+            letters[waiting++] = letter;
         }
     }
 }
 
 /* Makes every worker's machine; the initiator's sends the invitations. */
 static void begin(void) {
-    accepted(recovery_line_initiator_begin(TABLES, INITIATOR, PURPOSE, ARRAY(initiator), ARRAY(out), ARRAY(lengths)));
-    send_all(INITIATOR);
-    for (uint64_t p = 1; p <= shape[0]; p++) {
-        if (p != INITIATOR) {
-            accepted(recovery_line_participant_first(TABLES, p, INITIATOR, PURPOSE, ARRAY(participants[p - 1])));
+    static rline_messages invitations;
+    accepted(rline_initiator_begin(&initiator, &tables, first, PURPOSE, &invitations));
+    send_all(first, &invitations);
+    for (uint64_t p = 1; p <= rline_processes(&tables); p++) {
+        if (p != first.number) {
+            accepted(rline_participant_first(&participants[p - 1], &tables, rline_process_number(p), first, PURPOSE));
         }
     }
 }
 
 /* Delivers a message to its receiver's machine, and sends what that answers with. */
 static void deliver(const struct letter *letter) {
-    if (letter->to == INITIATOR) {
-        accepted(recovery_line_initiator_receive(ARRAY(initiator), TABLES, letter->bytes, letter->length, ARRAY(out),
-                                                 ARRAY(lengths)));
+    static rline_messages out;
+    if (letter->to.number == first.number) {
+        accepted(rline_initiator_receive(&initiator, &tables, letter->message, &out));
     } else {
-        accepted(recovery_line_participant_receive(ARRAY(participants[letter->to - 1]), TABLES, letter->bytes,
-                                                   letter->length, ARRAY(out), ARRAY(lengths)));
+        accepted(rline_participant_receive(&participants[letter->to.number - 1], &tables, letter->message, &out));
     }
-    send_all(letter->to);
+    send_all(letter->to, &out);
 }
 
 /* Delivers messages until none waits, and counts them. */
@@ -141,61 +121,63 @@ static unsigned search(void) {
     begin();
     while (waiting > 0) {
         struct letter letter = letters[--waiting];
-        printf("%" PRIu64 " to %" PRIu64 ":", letter.from, letter.to);
-        print_bytes(letter.bytes, letter.length);
+        printf("%" PRIu64 " to %" PRIu64 ":", letter.from.number, letter.to.number);
+        print_bytes(letter.message.bytes, letter.message.length);
         deliver(&letter);
         delivered++;
     }
     return delivered;
 }
 
-/* Whether process p has ended, and stands on that checkpoint. */
-static int has_ended_on(uint64_t p, uint64_t checkpoint) {
-    if (p == INITIATOR) {
-        return initiator[RECOVERY_LINE_INITIATOR_ENDED_AT] == 1 &&
-               initiator[RECOVERY_LINE_INITIATOR_CANDIDATE_AT] == checkpoint;
+/* Whether a worker has ended, and stands on that checkpoint. */
+static int has_ended_on(rline_process worker, rline_checkpoint checkpoint) {
+    if (worker.number == first.number) {
+        return rline_initiator_ended(&initiator) && rline_initiator_candidate(&initiator).number == checkpoint.number;
     }
-    const uint64_t *participant = participants[p - 1];
-    return participant[RECOVERY_LINE_PARTICIPANT_STAGE_AT] == STAGE_ENDED &&
-           participant[RECOVERY_LINE_PARTICIPANT_CANDIDATE_AT] == checkpoint;
+    const rline_participant *machine = &participants[worker.number - 1];
+    return rline_participant_ended(machine) && rline_participant_candidate(machine).number == checkpoint.number;
 }
 
 /* Finds the line in the tables, holds every worker against it, and prints it. */
 static void compare_with_line(void) {
-    uint64_t line[RECOVERY_LINE_SET_WORDS] = {0}, passed = 0;
-    accepted(recovery_line_find(TABLES, ARRAY(line), &passed));
+    rline_line line;
+    accepted(rline_find(&tables, &line));
     printf("line");
-    for (uint64_t p = 1; p <= shape[0]; p++) {
-        if (!has_ended_on(p, line[p - 1])) {
+    for (uint64_t p = 1; p <= rline_processes(&tables); p++) {
+        rline_checkpoint checkpoint = rline_set_get(&line.set, rline_process_number(p));
+        if (!has_ended_on(rline_process_number(p), checkpoint)) {
             stop("some worker has not ended on the line");
         }
-        printf(" %" PRIu64, line[p - 1]);
+        printf(" %" PRIu64, checkpoint.number);
     }
-    printf("\npassed %" PRIu64 "\n", passed);
+    printf("\npassed %" PRIu64 "\n", line.passed);
 }
 
 /* Moves the line in the tables, and prints from where everybody restarts and the new book. */
 static void move_line(void) {
     static uint8_t book[RECOVERY_LINE_BOOK_BYTES];
-    uint64_t order[RECOVERY_LINE_ORDER_WORDS] = {0}, length = 0;
-    accepted(recovery_line_move(TABLES, PURPOSE, ARRAY(order)));
-    for (uint64_t p = 1; p <= shape[0]; p++) {
-        const uint64_t *from = &order[p - 1], *before = from + RECOVERY_LINE_ORDER_BEFORE_AT;
-        const uint64_t *after = from + RECOVERY_LINE_ORDER_AFTER_AT;
-        printf("process %" PRIu64 " restarts from checkpoint %" PRIu64, p, *from);
-        printf("; before it %" PRIu64 " go, after it %" PRIu64 "\n", *before, *after);
+    static rline_order order;
+    size_t length;
+    accepted(rline_move(&tables, PURPOSE, &order));
+    for (uint64_t p = 1; p <= rline_processes(&tables); p++) {
+        rline_restart restart = rline_order_get(&order, rline_process_number(p));
+        printf("process %" PRIu64 " restarts from checkpoint %" PRIu64, p, restart.from.number);
+        printf("; before it %" PRIu64 " go, after it %" PRIu64 "\n", restart.before, restart.after);
     }
-    accepted(recovery_line_write(TABLES, ARRAY(book), &length));
+    accepted(rline_write(&tables, book, sizeof book, &length));
     printf("new book");
-    print_bytes(book, (size_t)length);
+    print_bytes(book, length);
 }
 
 int main(int argc, char **argv) {
+    if (!rline_version_fits()) {
+        stop("rline.h and librecovery_line.a have different versions");
+    }
     read_book(argc > 1 ? argv[1] : NULL);
-    printf("processes %" PRIu64 "\n", shape[0]);
+    printf("processes %" PRIu64 "\n", rline_processes(&tables));
     unsigned delivered = search();
     compare_with_line();
-    printf("rounds %" PRIu64 "\nmessages %u\n", initiator[RECOVERY_LINE_INITIATOR_ROUNDS_AT], delivered);
+    printf("rounds %" PRIu64 "\nmessages %u\n", rline_initiator_rounds(&initiator), delivered);
     move_line();
     return EXIT_SUCCESS;
 }

@@ -29,6 +29,7 @@ static uint64_t book_length, journal_length, partner, passed, rounds, messages, 
 static const uint8_t *message;
 static size_t message_length;
 
+static uint32_t call_version(void) { return recovery_line_version(); }
 static uint32_t call_read(void) { return recovery_line_read(book, (size_t)book_length, TABLES); }
 static uint32_t call_journal(void) { return recovery_line_journal(journal, (size_t)journal_length, TABLES); }
 static uint32_t call_check(void) { return recovery_line_check(TABLES); }
@@ -63,7 +64,7 @@ static uint32_t call_search(void) {
 static uint32_t call_move(void) { return recovery_line_move(TABLES, purpose, ARRAY(order)); }
 static uint32_t call_restart_order(void) { return recovery_line_restart_order(TABLES, purpose, ARRAY(order)); }
 
-enum call { READ, JOURNAL, CHECK, WRITE, TEST_SET, TEST_CHECKPOINT, FIND, PARTICIPANT_FIRST, PARTICIPANT_RECEIVE,
+enum call { VERSION, READ, JOURNAL, CHECK, WRITE, TEST_SET, TEST_CHECKPOINT, FIND, PARTICIPANT_FIRST, PARTICIPANT_RECEIVE,
             INITIATOR_BEGIN, INITIATOR_RECEIVE, SESSION_START, SESSION_TURN, SEARCH, MOVE, RESTART_ORDER, CALLS };
 static struct {
     const char *name;
@@ -71,6 +72,7 @@ static struct {
     size_t most;
     unsigned long times;
 } calls[CALLS] = {
+    {"version", call_version, 0, 0},
     {"read", call_read, 0, 0},
     {"journal", call_journal, 0, 0},
     {"check", call_check, 0, 0},
@@ -268,7 +270,7 @@ static void measure_moves(void) {
 
 /* A session's turns to its end, lowest or highest waiting strand first, with a refused turn before each. */
 static void measure_session(bool highest) {
-    const uint64_t *waiting = session + 3 + RECOVERY_LINE_INITIATOR_WORDS + PROCESSES * RECOVERY_LINE_PARTICIPANT_WORDS;
+    const uint64_t *waiting = session + RECOVERY_LINE_SESSION_LENGTHS_AT;
     accepted(SESSION_START);
     for (;;) {
         unsigned chosen = 0;
@@ -361,6 +363,7 @@ int main(void) {
     for (int i = 0; i < 2; i++) {
         paint = paints[i];
         paint_from(0);
+        measure(VERSION);
         measure_journals();
         make_tables(1, 1, 0, false);
         measure_all();

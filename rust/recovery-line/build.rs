@@ -1,5 +1,5 @@
-//! Links librecovery_line.a: from the directory that RECOVERY_LINE_LIB_DIR names (relative to this package), or else from
-//! target/staticlib of this repository.
+//! Links librecovery_line.a, from the directory that README.md says. Where it is missing only what links fails: a check or the
+//! documentation needs none.
 
 use std::env;
 use std::path::{Path, PathBuf};
@@ -8,25 +8,46 @@ const DIRECTORY: &str = "RECOVERY_LINE_LIB_DIR";
 const ARCHIVE: &str = "librecovery_line.a";
 
 fn main() {
-    let directory = library_directory();
-    let archive = directory.join(ARCHIVE);
     println!("cargo::rerun-if-changed=build.rs");
-    println!("cargo::rerun-if-changed={}", archive.display());
     println!("cargo::rerun-if-env-changed={DIRECTORY}");
+    match library_directory() {
+        Ok(directory) => link_from(&directory),
+        Err(why) => println!("cargo::error={why}"),
+    }
+}
+
+fn link_from(directory: &Path) {
+    let archive = directory.join(ARCHIVE);
+    println!("cargo::rerun-if-changed={}", archive.display());
     if !archive.is_file() {
         println!(
-            "cargo::error={} is missing: run `rt staticlib recovery_line` in the root of the repository, or set {DIRECTORY} \
-             to the directory that holds {ARCHIVE}",
+            "cargo::warning={} is missing, and nothing can be linked without it: run `rt staticlib recovery_line` in the \
+             root of the repository, or set {DIRECTORY} to the directory that holds {ARCHIVE}",
             archive.display()
         );
-        return;
     }
     println!("cargo::rustc-link-search=native={}", directory.display());
     println!("cargo::rustc-link-lib=static=recovery_line");
 }
 
-fn library_directory() -> PathBuf {
-    let package = env::var_os("CARGO_MANIFEST_DIR").unwrap_or_default();
-    let named = env::var_os(DIRECTORY).unwrap_or_else(|| "../../target/staticlib".into());
-    Path::new(&package).join(named)
+fn library_directory() -> Result<PathBuf, String> {
+    let Some(named) = env::var_os(DIRECTORY).map(PathBuf::from) else {
+        let package = env::var_os("CARGO_MANIFEST_DIR").unwrap_or_default();
+        return Ok(Path::new(&package).join("../../target/staticlib"));
+    };
+    if named.is_absolute() {
+        return Ok(named);
+    }
+    // This program runs in the package's directory. Only the shell's variable says where cargo was called.
+    println!("cargo::rerun-if-env-changed=PWD");
+    let caller = env::var_os("PWD")
+        .map(PathBuf::from)
+        .filter(|caller| caller.is_absolute());
+    match caller {
+        Some(caller) => Ok(caller.join(named)),
+        None => Err(format!(
+            "{DIRECTORY} is {}, and PWD does not say from where: name an absolute directory",
+            named.display()
+        )),
+    }
 }

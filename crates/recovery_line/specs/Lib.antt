@@ -4,3 +4,4 @@ pub mod Lines
 pub mod Machines
 pub mod Sessions
 pub mod Moves
+pub mod Version

@@ -8,6 +8,7 @@ mod lines;
 mod machines;
 mod moved;
 mod sessions;
+mod version;
 
 use words::layout;
 ghost use mathlib.Core.Path.{_≡_};

@@ -6,6 +6,7 @@ use crate::journal_claims::{book_of_events, channels_hold};
 use crate::journals::{any_journal, long_journal, Journal};
 use crate::layout::BOOK_BYTES;
 use crate::lent::{Guarded, Lent};
+use crate::made;
 use crate::random::Random;
 use crate::runner::{book_of, Runner};
 use crate::scenarios::lent_tables;
@@ -49,6 +50,13 @@ fn accepted(runner: &mut Runner, left: &Lent, bytes: &[u8]) -> Option<()> {
     runner.demand(
         built == counted,
         "the tables have what the events before each checkpoint add up to",
+        left,
+    )?;
+    let written = made::by_events(&journal);
+    let same = written.bytes() == bytes && written.tables().is_ok_and(|tables| made::book_in(&tables) == built);
+    runner.demand(
+        same,
+        "the wrapper's journal of these events has these bytes and tables",
         left,
     )?;
     let law = channels_hold(&journal);

@@ -20,6 +20,7 @@ pub mod layout;
 pub mod lent;
 pub mod line;
 pub mod machine_scenarios;
+pub mod made;
 pub mod measured_books;
 pub mod measured_journals;
 pub mod messages;

@@ -10,7 +10,7 @@ use crate::random::Random;
 use crate::runner::{book_of, Runner};
 use crate::tally::Kind;
 use crate::variations::varied;
-use crate::{journal_scenarios, line, machine_scenarios, session_scenarios, set_scenarios};
+use crate::{journal_scenarios, line, machine_scenarios, made, session_scenarios, set_scenarios};
 
 /// Runs the scenario of a number.
 pub fn run(runner: &mut Runner, number: u64) {
@@ -42,6 +42,12 @@ fn books(runner: &mut Runner, random: &mut Random) -> Option<()> {
     let read = runner.case(Kind::ValidBook, Call::Read, Lent::to_read(&bytes))?;
     let as_made = read.answer == 0 && read.left.sent.lent() == book.sent && read.left.received.lent() == book.received;
     runner.demand(as_made, "a valid book is read into its tables", &read.left)?;
+    let built = made::by_checkpoints(&book);
+    runner.demand(
+        built == Ok(book.clone()),
+        "the wrapper's builder makes that book",
+        &read.left,
+    )?;
     written_back(runner, &read.left, &bytes)?;
     for _ in 0..6 {
         let damaged = damaged_books::damaged(random, &book);

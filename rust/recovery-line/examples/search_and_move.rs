@@ -1,9 +1,10 @@
 //! Workers look for their recovery line by messages, and then move it.
 //!
-//!     cargo run --example search_and_move [BOOK]
+//!     cargo run --example search_and_move
 //!
-//! BOOK is a file that holds a checkpoint book; without it the example takes a small one of its own. Each worker has its own
-//! machine. Messages wait in one list, and the newest is delivered first: any other order ends on the same line.
+//! An argument after `--` names a file that holds a checkpoint book; without it the example takes a small one of its own. Each
+//! worker has its own machine. Messages wait in one list, and the newest is delivered first: any other order ends on the same
+//! line.
 
 use recovery_line::{Initiator, Line, Messages, Participant, Process, Purpose, Refusal, Tables};
 use std::error::Error;
@@ -46,17 +47,13 @@ impl Search {
             letters: Vec::new(),
             delivered: 0,
         };
-        search.send(first, &invitations);
+        search.send(first, invitations);
         Ok(search)
     }
 
-    fn send(&mut self, from: Process, messages: &Messages) {
-        for (to, bytes) in messages.iter() {
-            self.letters.push(Letter {
-                from,
-                to,
-                bytes: bytes.to_vec(),
-            });
+    fn send(&mut self, from: Process, messages: Messages) {
+        for (to, bytes) in messages {
+            self.letters.push(Letter { from, to, bytes });
         }
     }
 
@@ -71,7 +68,7 @@ impl Search {
             None => self.initiator.receive(tables, &letter.bytes)?,
         };
         self.delivered += 1;
-        self.send(letter.to, &replies);
+        self.send(letter.to, replies);
         Ok(())
     }
 
@@ -124,8 +121,7 @@ fn search_and_move() -> Result<(), Box<dyn Error>> {
     println!("rounds {}", search.initiator.rounds());
     println!("messages {}", search.delivered);
 
-    let order = tables.move_line(Purpose::AdvanceAndRestart)?;
-    for restart in order.iter() {
+    for restart in tables.move_line(Purpose::AdvanceAndRestart)? {
         println!(
             "process {} restarts from checkpoint {}; before it {} go, after it {}",
             restart.process, restart.from, restart.before, restart.after

@@ -8,12 +8,14 @@ use crate::sys::{
     RECOVERY_LINE_INITIATOR_AWAITED_AT as AWAITED, RECOVERY_LINE_INITIATOR_CANDIDATE_AT as CANDIDATE,
     RECOVERY_LINE_INITIATOR_ENDED_AT as ENDED, RECOVERY_LINE_INITIATOR_MATRIX_AT as MATRIX,
     RECOVERY_LINE_INITIATOR_PROCESS_AT as PROCESS, RECOVERY_LINE_INITIATOR_PURPOSE_AT as PURPOSE,
-    RECOVERY_LINE_INITIATOR_ROUNDS_AT as ROUNDS, RECOVERY_LINE_INITIATOR_WORDS, RECOVERY_LINE_PROCESSES,
+    RECOVERY_LINE_INITIATOR_ROUNDS_AT as ROUNDS, RECOVERY_LINE_INITIATOR_WORDS, RECOVERY_LINE_NOT_AWAITED,
+    RECOVERY_LINE_NOT_ENDED, RECOVERY_LINE_N_AT as N, RECOVERY_LINE_PROCESSES,
 };
 use crate::tables::Tables;
 
 /// The machine of the worker that begins a search; [`Tables::initiator`] makes it.
 #[derive(Clone, Debug, PartialEq, Eq)]
+#[must_use = "a search waits for every machine"]
 pub struct Initiator(Box<[u64; RECOVERY_LINE_INITIATOR_WORDS]>);
 
 impl Initiator {
@@ -38,42 +40,53 @@ impl Initiator {
     }
 
     /// Its own process.
+    #[must_use]
     pub fn process(&self) -> Process {
         Process::new(self.0[PROCESS])
     }
 
     /// What the search is for.
+    #[must_use]
     pub fn purpose(&self) -> Purpose {
         Purpose::in_word(self.0[PURPOSE])
     }
 
     /// Whether it has ended.
+    #[must_use]
     pub fn ended(&self) -> bool {
-        self.0[ENDED] != 0
+        self.0[ENDED] != RECOVERY_LINE_NOT_ENDED
     }
 
     /// The checkpoint that it stands on.
+    #[must_use]
     pub fn candidate(&self) -> Checkpoint {
         Checkpoint::new(self.0[CANDIDATE])
     }
 
     /// How many waits have begun.
+    #[must_use]
     pub fn rounds(&self) -> u64 {
         self.0[ROUNDS]
     }
 
     /// Whether it awaits a report of that process.
+    #[must_use]
     pub fn awaits(&self, process: Process) -> bool {
-        process.place().is_some_and(|place| self.0[AWAITED + place] != 0)
+        let place = process.place_among(self.0[N]);
+        place.is_some_and(|place| self.0[AWAITED + place] != RECOVERY_LINE_NOT_AWAITED)
     }
 
-    /// What it knows the sender's candidate to have sent to the receiver; `None` if it does not know.
+    /// What it knows the sender's candidate to have sent to the receiver; `None` if it does not know, if one of them is absent,
+    /// and if they are the same.
+    #[must_use]
     pub fn known(&self, sender: Process, receiver: Process) -> Option<Count> {
-        let entry = sender.place()? * RECOVERY_LINE_PROCESSES + receiver.place()?;
+        let n = self.0[N];
+        let entry = sender.place_among(n)? * RECOVERY_LINE_PROCESSES + receiver.place_beside(sender, n)?;
         Count::known(self.0[MATRIX + entry])
     }
 
     /// The state as words, to be stored.
+    #[must_use]
     pub fn words(&self) -> &[u64; RECOVERY_LINE_INITIATOR_WORDS] {
         &self.0
     }

@@ -1,11 +1,13 @@
 //! The messages of one step.
 
+use crate::by_process::ByProcess;
 use crate::names::Process;
 use crate::refusal::Refusal;
 use crate::sys::{RECOVERY_LINE_LENGTHS_WORDS, RECOVERY_LINE_PROCESSES, RECOVERY_LINE_STRAND_BYTES};
 
 /// The messages that a machine sends in one step, each to be delivered to its receiver.
 #[derive(Clone, Debug, PartialEq, Eq, Default)]
+#[must_use = "a message that is not delivered stalls the search for ever"]
 pub struct Messages {
     bytes: Vec<u8>,
     lengths: [u64; RECOVERY_LINE_LENGTHS_WORDS],
@@ -27,39 +29,65 @@ impl Messages {
     }
 
     /// Each receiver with its message, in rising order.
-    pub fn iter(&self) -> impl Iterator<Item = (Process, &[u8])> {
+    pub fn iter(&self) -> ByProcess<(Process, &[u8])> {
         let mut rest = &self.bytes[..];
-        Process::all(RECOVERY_LINE_PROCESSES as u64)
-            .zip(self.lengths)
-            .filter_map(move |(receiver, length)| {
-                let (message, later) = rest.split_at(length as usize);
-                rest = later;
-                (length != 0).then_some((receiver, message))
-            })
+        let mut lengths = self.lengths.iter();
+        ByProcess::of(|receiver| {
+            let (message, later) = rest.split_at(*lengths.next()? as usize);
+            rest = later;
+            (!message.is_empty()).then_some((receiver, message))
+        })
     }
 
     /// The message to a process, if there is one.
+    #[must_use]
     pub fn to(&self, receiver: Process) -> Option<&[u8]> {
         self.iter().find(|(to, _)| *to == receiver).map(|(_, message)| message)
     }
 
     /// How many messages there are.
+    #[must_use]
     pub fn len(&self) -> usize {
         self.lengths.iter().filter(|length| **length != 0).count()
     }
 
     /// Whether nothing is sent.
+    #[must_use]
     pub fn is_empty(&self) -> bool {
         self.bytes.is_empty()
     }
 
     /// All messages, one after another.
+    #[must_use]
     pub fn bytes(&self) -> &[u8] {
         &self.bytes
     }
 
     /// The length of the message to each of sixteen processes, 0 for none.
+    #[must_use]
     pub fn lengths(&self) -> &[u64; RECOVERY_LINE_LENGTHS_WORDS] {
         &self.lengths
+    }
+}
+
+impl<'a> IntoIterator for &'a Messages {
+    type Item = (Process, &'a [u8]);
+    type IntoIter = ByProcess<(Process, &'a [u8])>;
+
+    fn into_iter(self) -> Self::IntoIter {
+        self.iter()
+    }
+}
+
+impl IntoIterator for Messages {
+    type Item = (Process, Vec<u8>);
+    type IntoIter = ByProcess<(Process, Vec<u8>)>;
+
+    fn into_iter(self) -> Self::IntoIter {
+        let mut messages = self.iter().peekable();
+        ByProcess::of(|process| {
+            let (receiver, message) = messages.next_if(|(receiver, _)| *receiver == process)?;
+            Some((receiver, message.to_vec()))
+        })
     }
 }

@@ -9,11 +9,13 @@ macro_rules! number {
     ($name:ident) => {
         impl $name {
             /// Takes any number: whether it names something is asked by each call that it is lent to.
+            #[must_use]
             pub const fn new(number: u64) -> Self {
                 $name(number)
             }
 
             /// The number itself.
+            #[must_use]
             pub const fn number(self) -> u64 {
                 self.0
             }
@@ -36,6 +38,21 @@ impl Process {
     /// The processes that a book of `n` has, in rising order.
     pub fn all(n: u64) -> impl DoubleEndedIterator<Item = Process> + Clone {
         (1..=n).map(Process)
+    }
+
+    /// The process whose place in a row of sixteen that is.
+    pub(crate) const fn at(place: usize) -> Process {
+        Process(place as u64 + 1)
+    }
+
+    /// Its place in a row of sixteen, if it is one of the processes from 1 to n.
+    pub(crate) fn place_among(self, n: u64) -> Option<usize> {
+        self.place().filter(|_| self.0 <= n)
+    }
+
+    /// Its place in a row of `other`, if it is another one of the processes from 1 to n: nobody sends to himself.
+    pub(crate) fn place_beside(self, other: Process, n: u64) -> Option<usize> {
+        self.place_among(n).filter(|_| self != other)
     }
 
     /// Its place in a row of sixteen, if it is one of sixteen.
@@ -87,6 +104,7 @@ pub enum Purpose {
 
 impl Purpose {
     /// Its number: 1, 2 or 3.
+    #[must_use]
     pub const fn number(self) -> u64 {
         match self {
             Purpose::Advance => sys::RECOVERY_LINE_ADVANCE,
@@ -112,6 +130,14 @@ impl Purpose {
             sys::RECOVERY_LINE_RESTART => Purpose::Restart,
             _ => Purpose::AdvanceAndRestart,
         }
+    }
+}
+
+impl TryFrom<u64> for Purpose {
+    type Error = Refusal;
+
+    fn try_from(number: u64) -> Result<Purpose, Refusal> {
+        Purpose::from_number(number)
     }
 }
 

@@ -1,10 +1,10 @@
 //! Restart orders.
 
+use crate::by_process::ByProcess;
 use crate::names::{Checkpoint, Process};
 use crate::refusal::Refusal;
 use crate::sys::{
     RECOVERY_LINE_ORDER_AFTER_AT as AFTER, RECOVERY_LINE_ORDER_BEFORE_AT as BEFORE, RECOVERY_LINE_ORDER_WORDS,
-    RECOVERY_LINE_PROCESSES,
 };
 
 /// What one process does in a restart order.
@@ -22,6 +22,7 @@ pub struct Restart {
 
 /// A restart order: for each process the checkpoint restarted from, and how many go before and after it.
 #[derive(Clone, Copy, Debug, PartialEq, Eq, Hash)]
+#[must_use = "an order that nobody follows restarts no process"]
 pub struct Order([u64; RECOVERY_LINE_ORDER_WORDS]);
 
 impl Order {
@@ -30,6 +31,7 @@ impl Order {
     }
 
     /// What a process does; `None` for an absent one.
+    #[must_use]
     pub fn of(&self, process: Process) -> Option<Restart> {
         let place = process.place()?;
         let from = self.0[place];
@@ -42,11 +44,12 @@ impl Order {
     }
 
     /// What each process does, in rising order.
-    pub fn iter(&self) -> impl Iterator<Item = Restart> + '_ {
-        Process::all(RECOVERY_LINE_PROCESSES as u64).filter_map(|process| self.of(process))
+    pub fn iter(&self) -> ByProcess<Restart> {
+        ByProcess::of(|process| self.of(process))
     }
 
     /// Sixteen checkpoints restarted from, sixteen numbers of those that go before, sixteen of those after.
+    #[must_use]
     pub fn words(&self) -> &[u64; RECOVERY_LINE_ORDER_WORDS] {
         &self.0
     }
@@ -54,5 +57,23 @@ impl Order {
     /// The order of [`RECOVERY_LINE_ORDER_WORDS`] words; any other number of them is refused by [`Refusal::WRONG_LENGTH`].
     pub fn from_words(words: &[u64]) -> Result<Order, Refusal> {
         words.try_into().map(Order).map_err(|_| Refusal::WRONG_LENGTH)
+    }
+}
+
+impl IntoIterator for Order {
+    type Item = Restart;
+    type IntoIter = ByProcess<Restart>;
+
+    fn into_iter(self) -> ByProcess<Restart> {
+        self.iter()
+    }
+}
+
+impl IntoIterator for &Order {
+    type Item = Restart;
+    type IntoIter = ByProcess<Restart>;
+
+    fn into_iter(self) -> ByProcess<Restart> {
+        self.iter()
     }
 }

@@ -5,14 +5,14 @@ use crate::names::{Checkpoint, Count, Process, Purpose};
 use crate::raw;
 use crate::refusal::Refusal;
 use crate::sys::{
-    RECOVERY_LINE_PARTICIPANT_CANDIDATE_AT as CANDIDATE, RECOVERY_LINE_PARTICIPANT_COLUMN_AT as COLUMN,
-    RECOVERY_LINE_PARTICIPANT_INITIATOR_AT as INITIATOR, RECOVERY_LINE_PARTICIPANT_PROCESS_AT as PROCESS,
-    RECOVERY_LINE_PARTICIPANT_PURPOSE_AT as PURPOSE, RECOVERY_LINE_PARTICIPANT_ROW_AT as ROW,
-    RECOVERY_LINE_PARTICIPANT_STAGE_AT as STAGE, RECOVERY_LINE_PARTICIPANT_WORDS,
+    RECOVERY_LINE_N_AT as N, RECOVERY_LINE_PARTICIPANT_CANDIDATE_AT as CANDIDATE,
+    RECOVERY_LINE_PARTICIPANT_COLUMN_AT as COLUMN, RECOVERY_LINE_PARTICIPANT_INITIATOR_AT as INITIATOR,
+    RECOVERY_LINE_PARTICIPANT_PROCESS_AT as PROCESS, RECOVERY_LINE_PARTICIPANT_PURPOSE_AT as PURPOSE,
+    RECOVERY_LINE_PARTICIPANT_ROW_AT as ROW, RECOVERY_LINE_PARTICIPANT_STAGE_AT as STAGE,
+    RECOVERY_LINE_PARTICIPANT_WORDS, RECOVERY_LINE_STAGE_BEFORE, RECOVERY_LINE_STAGE_ENDED,
+    RECOVERY_LINE_STAGE_SEARCHING,
 };
 use crate::tables::Tables;
-
-pub(crate) const LAST_STAGE: u64 = 2;
 
 /// How far a participant has come.
 #[derive(Clone, Copy, Debug, PartialEq, Eq, Hash)]
@@ -27,6 +27,7 @@ pub enum Stage {
 
 /// A worker's machine in a search that another process begins; [`Tables::participant`] makes it.
 #[derive(Clone, Debug, PartialEq, Eq)]
+#[must_use = "a search waits for every machine"]
 pub struct Participant([u64; RECOVERY_LINE_PARTICIPANT_WORDS]);
 
 impl Participant {
@@ -51,50 +52,65 @@ impl Participant {
     }
 
     /// Its own process.
+    #[must_use]
     pub fn process(&self) -> Process {
         Process::new(self.0[PROCESS])
     }
 
     /// The process that begins the search.
+    #[must_use]
     pub fn initiator(&self) -> Process {
         Process::new(self.0[INITIATOR])
     }
 
     /// What the search is for.
+    #[must_use]
     pub fn purpose(&self) -> Purpose {
         Purpose::in_word(self.0[PURPOSE])
     }
 
     /// How far it has come.
+    #[must_use]
     pub fn stage(&self) -> Stage {
         match self.0[STAGE] {
-            0 => Stage::BeforeInvitation,
-            1 => Stage::Searching,
+            RECOVERY_LINE_STAGE_BEFORE => Stage::BeforeInvitation,
+            RECOVERY_LINE_STAGE_SEARCHING => Stage::Searching,
             _ => Stage::Ended,
         }
     }
 
     /// Whether it has ended.
+    #[must_use]
     pub fn ended(&self) -> bool {
         self.stage() == Stage::Ended
     }
 
     /// The checkpoint that it stands on.
+    #[must_use]
     pub fn candidate(&self) -> Checkpoint {
         Checkpoint::new(self.0[CANDIDATE])
     }
 
-    /// The sent counter that it last reported for a partner; `None` before its first report.
+    /// The sent counter that it last reported for a partner; `None` before its first report, and for no partner: an absent
+    /// process, or its own.
+    #[must_use]
     pub fn reported(&self, partner: Process) -> Option<Count> {
-        Count::known(self.0[ROW + partner.place()?])
+        Count::known(self.0[ROW + self.place_of(partner)?])
     }
 
-    /// What it knows to have been sent to it by a partner; `None` if it does not know.
+    /// What it knows to have been sent to it by a partner; `None` if it does not know, and for no partner: an absent process,
+    /// or its own.
+    #[must_use]
     pub fn known(&self, partner: Process) -> Option<Count> {
-        Count::known(self.0[COLUMN + partner.place()?])
+        Count::known(self.0[COLUMN + self.place_of(partner)?])
+    }
+
+    fn place_of(&self, partner: Process) -> Option<usize> {
+        partner.place_beside(self.process(), self.0[N])
     }
 
     /// The state as words, to be stored.
+    #[must_use]
     pub fn words(&self) -> &[u64; RECOVERY_LINE_PARTICIPANT_WORDS] {
         &self.0
     }
@@ -106,7 +122,7 @@ impl Participant {
     pub fn from_words(words: &[u64]) -> Result<Participant, Refusal> {
         let words: [u64; RECOVERY_LINE_PARTICIPANT_WORDS] = words.try_into().map_err(|_| Refusal::WRONG_LENGTH)?;
         Purpose::from_number(words[PURPOSE])?;
-        if words[STAGE] > LAST_STAGE {
+        if words[STAGE] > RECOVERY_LINE_STAGE_ENDED {
             return Err(Refusal::MISFIT);
         }
         Ok(Participant(words))

@@ -6,7 +6,7 @@ use std::fmt;
 use std::num::NonZeroU32;
 
 /// The first question that a call fails; the call has then changed nothing that was lent to it.
-#[derive(Clone, Copy, Debug, PartialEq, Eq, PartialOrd, Ord, Hash)]
+#[derive(Clone, Copy, PartialEq, Eq, PartialOrd, Ord, Hash)]
 pub struct Refusal(NonZeroU32);
 
 impl Refusal {
@@ -14,6 +14,10 @@ impl Refusal {
     pub const WRONG_LENGTH: Refusal = Refusal::numbered(sys::RECOVERY_LINE_WRONG_LENGTH);
     /// The refusal of a purpose that is not 1, 2 or 3.
     pub(crate) const NO_PURPOSE: Refusal = Refusal::numbered(11);
+    /// The refusal of a counter that stands where none belongs.
+    pub(crate) const NOT_UNUSED: Refusal = Refusal::numbered(9);
+    /// The refusal of a process that there is not.
+    pub(crate) const NO_PROCESS: Refusal = Refusal::numbered(10);
     /// The refusal of a state that does not fit.
     pub(crate) const MISFIT: Refusal = Refusal::numbered(13);
 
@@ -33,11 +37,13 @@ impl Refusal {
     }
 
     /// The number of the question, or 100 for a wrong length.
+    #[must_use]
     pub const fn question(self) -> u32 {
         self.0.get()
     }
 
     /// The question as the specification puts it; for a wrong length, what is wrong.
+    #[must_use]
     pub const fn sentence(self) -> &'static str {
         match self.question() {
             1 => "Are there at most 65,536 book bytes?",
@@ -53,12 +59,10 @@ impl Refusal {
             11 => "Is the purpose 1, 2 or 3?",
             12 => "Does each named checkpoint exist?",
             13 => "Does the state fit the tables?",
-            14 => {
-                "Is the message formed as above (purposes 1 to 3, processes 1 to n), purpose 2 only in an invitation?"
-            }
+            14 => "Is the message formed (purposes 1 to 3, processes 1 to n), purpose 2 only in an invitation?",
             15 => {
                 "Is it awaited here: right sender, purpose, kind, and in a first report (the sender's row all \
-                 \"not known\") n \u{2212} 1 pairs?"
+                 \"not known\") n - 1 pairs?"
             }
             16 => "Is each counter lower than the entry now held (by the initiator, in its matrix)?",
             17 => "Do the bytes to be written fit the buffer?",
@@ -72,13 +76,21 @@ impl Refusal {
 }
 
 impl fmt::Display for Refusal {
+    /// As "refused by question 4: Is n from 1 to 16?".
     fn fmt(&self, f: &mut fmt::Formatter<'_>) -> fmt::Result {
         let what = if *self == Refusal::WRONG_LENGTH {
             ""
         } else {
             "question "
         };
-        write!(f, "{what}{}: {}", self.question(), self.sentence())
+        write!(f, "refused by {what}{}: {}", self.question(), self.sentence())
+    }
+}
+
+impl fmt::Debug for Refusal {
+    /// With the sentence: this is what `unwrap` shows, and a `main` that returns a refusal.
+    fn fmt(&self, f: &mut fmt::Formatter<'_>) -> fmt::Result {
+        f.debug_tuple("Refusal").field(&self.0).field(&self.sentence()).finish()
     }
 }
 

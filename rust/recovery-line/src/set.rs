@@ -1,5 +1,6 @@
 //! Sets of checkpoints, and what is found.
 
+use crate::by_process::ByProcess;
 use crate::names::{Checkpoint, Process};
 use crate::refusal::Refusal;
 use crate::sys::RECOVERY_LINE_SET_WORDS;
@@ -7,6 +8,7 @@ use std::fmt;
 
 /// One checkpoint for each process, none for absent ones.
 #[derive(Clone, Copy, Debug, PartialEq, Eq, Hash)]
+#[must_use = "a set only says something when it is looked at"]
 pub struct Set([u64; RECOVERY_LINE_SET_WORDS]);
 
 impl Set {
@@ -26,17 +28,19 @@ impl Set {
     }
 
     /// The checkpoint of a process, if the set has one.
+    #[must_use]
     pub fn checkpoint(&self, process: Process) -> Option<Checkpoint> {
         let word = self.0[process.place()?];
         (word != 0).then_some(Checkpoint::new(word))
     }
 
-    /// Each process that has a checkpoint, with it.
-    pub fn iter(&self) -> impl Iterator<Item = (Process, Checkpoint)> + '_ {
-        Process::all(RECOVERY_LINE_SET_WORDS as u64).filter_map(|process| Some((process, self.checkpoint(process)?)))
+    /// Each process that has a checkpoint, with it, in rising order.
+    pub fn iter(&self) -> ByProcess<(Process, Checkpoint)> {
+        ByProcess::of(|process| Some((process, self.checkpoint(process)?)))
     }
 
     /// Sixteen checkpoint numbers, 0 for absent processes.
+    #[must_use]
     pub fn words(&self) -> &[u64; RECOVERY_LINE_SET_WORDS] {
         &self.0
     }
@@ -44,6 +48,32 @@ impl Set {
     /// The set of sixteen words; any other number of them is refused by [`Refusal::WRONG_LENGTH`].
     pub fn from_words(words: &[u64]) -> Result<Set, Refusal> {
         words.try_into().map(Set).map_err(|_| Refusal::WRONG_LENGTH)
+    }
+}
+
+impl IntoIterator for Set {
+    type Item = (Process, Checkpoint);
+    type IntoIter = ByProcess<(Process, Checkpoint)>;
+
+    fn into_iter(self) -> Self::IntoIter {
+        self.iter()
+    }
+}
+
+impl IntoIterator for &Set {
+    type Item = (Process, Checkpoint);
+    type IntoIter = ByProcess<(Process, Checkpoint)>;
+
+    fn into_iter(self) -> Self::IntoIter {
+        self.iter()
+    }
+}
+
+impl TryFrom<&[Checkpoint]> for Set {
+    type Error = Refusal;
+
+    fn try_from(checkpoints: &[Checkpoint]) -> Result<Set, Refusal> {
+        Set::new(checkpoints)
     }
 }
 
@@ -60,6 +90,7 @@ impl fmt::Display for Set {
 
 /// The recovery line.
 #[derive(Clone, Copy, Debug, PartialEq, Eq, Hash)]
+#[must_use = "the line is what the call was for"]
 pub struct Line {
     /// The checkpoint of each process.
     pub set: Set,
@@ -69,6 +100,7 @@ pub struct Line {
 
 /// What a search came to.
 #[derive(Clone, Copy, Debug, PartialEq, Eq, Hash)]
+#[must_use = "where the search ended is what the call was for"]
 pub struct Search {
     /// The set on which everybody ended: the line with purpose 1 or 3, checkpoint 1 everywhere with purpose 2.
     pub set: Set,

@@ -19,6 +19,9 @@ pub const RECOVERY_LINE_TABLE_ENTRIES: usize = RECOVERY_LINE_CHECKPOINTS * RECOV
 /// The entries of a matrix.
 pub const RECOVERY_LINE_MATRIX_ENTRIES: usize = RECOVERY_LINE_PROCESSES * RECOVERY_LINE_PROCESSES;
 
+/// Where n stands in a shape, a participant's state, an initiator's and a session.
+pub const RECOVERY_LINE_N_AT: usize = 0;
+
 /// Where the counts of checkpoints begin in a shape, after n.
 pub const RECOVERY_LINE_SHAPE_COUNTS_AT: usize = 1;
 /// The words of a shape.
@@ -43,7 +46,7 @@ pub const RECOVERY_LINE_PARTICIPANT_PROCESS_AT: usize = 1;
 pub const RECOVERY_LINE_PARTICIPANT_INITIATOR_AT: usize = RECOVERY_LINE_PARTICIPANT_PROCESS_AT + 1;
 /// Where the purpose stands.
 pub const RECOVERY_LINE_PARTICIPANT_PURPOSE_AT: usize = RECOVERY_LINE_PARTICIPANT_INITIATOR_AT + 1;
-/// Where the stage stands: 0 before the invitation, 1 searching, 2 ended.
+/// Where the stage stands.
 pub const RECOVERY_LINE_PARTICIPANT_STAGE_AT: usize = RECOVERY_LINE_PARTICIPANT_PURPOSE_AT + 1;
 /// Where the candidate stands.
 pub const RECOVERY_LINE_PARTICIPANT_CANDIDATE_AT: usize = RECOVERY_LINE_PARTICIPANT_STAGE_AT + 1;
@@ -58,13 +61,13 @@ pub const RECOVERY_LINE_PARTICIPANT_WORDS: usize = RECOVERY_LINE_PARTICIPANT_COL
 pub const RECOVERY_LINE_INITIATOR_PROCESS_AT: usize = 1;
 /// Where the purpose stands.
 pub const RECOVERY_LINE_INITIATOR_PURPOSE_AT: usize = RECOVERY_LINE_INITIATOR_PROCESS_AT + 1;
-/// Where it says whether it has ended: 0 or 1.
+/// Where it says whether it has ended.
 pub const RECOVERY_LINE_INITIATOR_ENDED_AT: usize = RECOVERY_LINE_INITIATOR_PURPOSE_AT + 1;
 /// Where the candidate stands.
 pub const RECOVERY_LINE_INITIATOR_CANDIDATE_AT: usize = RECOVERY_LINE_INITIATOR_ENDED_AT + 1;
 /// Where the count of rounds stands.
 pub const RECOVERY_LINE_INITIATOR_ROUNDS_AT: usize = RECOVERY_LINE_INITIATOR_CANDIDATE_AT + 1;
-/// Where the flags of who is awaited begin: 0 or 1.
+/// Where it begins to say who is awaited.
 pub const RECOVERY_LINE_INITIATOR_AWAITED_AT: usize = RECOVERY_LINE_INITIATOR_ROUNDS_AT + 1;
 /// Where the matrix begins, a row for each sender.
 pub const RECOVERY_LINE_INITIATOR_MATRIX_AT: usize = RECOVERY_LINE_INITIATOR_AWAITED_AT + RECOVERY_LINE_PROCESSES;
@@ -89,6 +92,21 @@ pub const RECOVERY_LINE_SESSION_LENGTHS_AT: usize =
 pub const RECOVERY_LINE_SESSION_DELIVERED_AT: usize = RECOVERY_LINE_SESSION_LENGTHS_AT + RECOVERY_LINE_PROCESSES;
 /// The words of a session.
 pub const RECOVERY_LINE_SESSION_WORDS: usize = RECOVERY_LINE_SESSION_DELIVERED_AT + 1;
+
+/// A participant's stage: before the invitation.
+pub const RECOVERY_LINE_STAGE_BEFORE: u64 = 0;
+/// A participant's stage: in a search.
+pub const RECOVERY_LINE_STAGE_SEARCHING: u64 = 1;
+/// A participant's stage: ended.
+pub const RECOVERY_LINE_STAGE_ENDED: u64 = 2;
+/// An initiator that has not ended.
+pub const RECOVERY_LINE_NOT_ENDED: u64 = 0;
+/// An initiator that has ended.
+pub const RECOVERY_LINE_ENDED: u64 = 1;
+/// A process of which no report is awaited.
+pub const RECOVERY_LINE_NOT_AWAITED: u64 = 0;
+/// A process of which a report is awaited.
+pub const RECOVERY_LINE_AWAITED: u64 = 1;
 
 /// The most bytes of the four numbers before a message's pairs.
 pub const RECOVERY_LINE_HEAD_SIZE: usize = 4;
@@ -120,6 +138,11 @@ pub const RECOVERY_LINE_RESTART: u64 = 2;
 /// The purpose that advances the line and restarts.
 pub const RECOVERY_LINE_ADVANCE_AND_RESTART: u64 = 3;
 
+/// The kind of a message: an invitation.
+pub const RECOVERY_LINE_INVITATION: u64 = 1;
+/// The kind of every other message.
+pub const RECOVERY_LINE_OTHER_MESSAGE: u64 = 2;
+
 /// The kind of an event: sent by the process to the partner.
 pub const RECOVERY_LINE_EVENT_SENT: u64 = 1;
 /// The kind of an event: received by the process from the partner.
@@ -133,235 +156,16 @@ pub const RECOVERY_LINE_ACCEPTED: u32 = 0;
 pub const RECOVERY_LINE_WRONG_LENGTH: u32 = 100;
 
 extern "C" {
-    /// Reads a book into two tables and a shape.
-    pub fn recovery_line_read(
-        bytes: *const u8,
-        bytes_len: usize,
-        shape: *mut u64,
-        shape_len: usize,
-        sent: *mut Counter,
-        sent_len: usize,
-        received: *mut Counter,
-        received_len: usize,
-    ) -> u32;
-
-    /// Reads a journal into two tables and a shape.
-    pub fn recovery_line_journal(
-        bytes: *const u8,
-        bytes_len: usize,
-        shape: *mut u64,
-        shape_len: usize,
-        sent: *mut Counter,
-        sent_len: usize,
-        received: *mut Counter,
-        received_len: usize,
-    ) -> u32;
-
-    /// Checks lent tables.
-    pub fn recovery_line_check(
-        shape: *const u64,
-        shape_len: usize,
-        sent: *const Counter,
-        sent_len: usize,
-        received: *const Counter,
-        received_len: usize,
-    ) -> u32;
-
-    /// Writes the book of the tables.
-    pub fn recovery_line_write(
-        shape: *const u64,
-        shape_len: usize,
-        sent: *const Counter,
-        sent_len: usize,
-        received: *const Counter,
-        received_len: usize,
-        out: *mut u8,
-        out_len: usize,
-        length: *mut u64,
-    ) -> u32;
-
-    /// Tests a set.
-    pub fn recovery_line_test_set(
-        shape: *const u64,
-        shape_len: usize,
-        sent: *const Counter,
-        sent_len: usize,
-        received: *const Counter,
-        received_len: usize,
-        set: *const u64,
-        set_len: usize,
-        pair: *mut u64,
-        pair_len: usize,
-    ) -> u32;
-
-    /// Tests one checkpoint of a process against a column.
-    pub fn recovery_line_test_checkpoint(
-        shape: *const u64,
-        shape_len: usize,
-        sent: *const Counter,
-        sent_len: usize,
-        received: *const Counter,
-        received_len: usize,
-        process: u64,
-        checkpoint: u64,
-        known: *const Counter,
-        known_len: usize,
-        partner: *mut u64,
-    ) -> u32;
-
-    /// Finds the line.
-    pub fn recovery_line_find(
-        shape: *const u64,
-        shape_len: usize,
-        sent: *const Counter,
-        sent_len: usize,
-        received: *const Counter,
-        received_len: usize,
-        line: *mut u64,
-        line_len: usize,
-        passed: *mut u64,
-    ) -> u32;
-
-    /// Makes a participant's first state.
-    pub fn recovery_line_participant_first(
-        shape: *const u64,
-        shape_len: usize,
-        sent: *const Counter,
-        sent_len: usize,
-        received: *const Counter,
-        received_len: usize,
-        me: u64,
-        initiator: u64,
-        purpose: u64,
-        state: *mut u64,
-        state_len: usize,
-    ) -> u32;
-
-    /// A participant receives a message.
-    pub fn recovery_line_participant_receive(
-        state: *mut u64,
-        state_len: usize,
-        shape: *const u64,
-        shape_len: usize,
-        sent: *const Counter,
-        sent_len: usize,
-        received: *const Counter,
-        received_len: usize,
-        message: *const u8,
-        message_len: usize,
-        out: *mut u8,
-        out_len: usize,
-        lengths: *mut u64,
-        lengths_len: usize,
-    ) -> u32;
-
-    /// An initiator begins.
-    pub fn recovery_line_initiator_begin(
-        shape: *const u64,
-        shape_len: usize,
-        sent: *const Counter,
-        sent_len: usize,
-        received: *const Counter,
-        received_len: usize,
-        me: u64,
-        purpose: u64,
-        state: *mut u64,
-        state_len: usize,
-        out: *mut u8,
-        out_len: usize,
-        lengths: *mut u64,
-        lengths_len: usize,
-    ) -> u32;
-
-    /// An initiator receives a report.
-    pub fn recovery_line_initiator_receive(
-        state: *mut u64,
-        state_len: usize,
-        shape: *const u64,
-        shape_len: usize,
-        sent: *const Counter,
-        sent_len: usize,
-        received: *const Counter,
-        received_len: usize,
-        message: *const u8,
-        message_len: usize,
-        out: *mut u8,
-        out_len: usize,
-        lengths: *mut u64,
-        lengths_len: usize,
-    ) -> u32;
-
-    /// Starts a session.
-    pub fn recovery_line_session_start(
-        shape: *const u64,
-        shape_len: usize,
-        sent: *const Counter,
-        sent_len: usize,
-        received: *const Counter,
-        received_len: usize,
-        initiator: u64,
-        purpose: u64,
-        session: *mut u64,
-        session_len: usize,
-        strands: *mut u8,
-        strands_len: usize,
-    ) -> u32;
-
-    /// A turn of a session.
-    pub fn recovery_line_session_turn(
-        session: *mut u64,
-        session_len: usize,
-        shape: *const u64,
-        shape_len: usize,
-        sent: *const Counter,
-        sent_len: usize,
-        received: *const Counter,
-        received_len: usize,
-        p: u64,
-        strands: *mut u8,
-        strands_len: usize,
-    ) -> u32;
-
-    /// A search from its start to its end: the set on which everybody ended, and how many checkpoints are newer than it.
-    pub fn recovery_line_search(
-        shape: *const u64,
-        shape_len: usize,
-        sent: *const Counter,
-        sent_len: usize,
-        received: *const Counter,
-        received_len: usize,
-        initiator: u64,
-        purpose: u64,
-        set: *mut u64,
-        set_len: usize,
-        newer: *mut u64,
-        rounds: *mut u64,
-        messages: *mut u64,
-    ) -> u32;
-
-    /// Moves the line.
-    pub fn recovery_line_move(
-        shape: *mut u64,
-        shape_len: usize,
-        sent: *mut Counter,
-        sent_len: usize,
-        received: *mut Counter,
-        received_len: usize,
-        purpose: u64,
-        order: *mut u64,
-        order_len: usize,
-    ) -> u32;
-
-    /// Gives the restart order of a move.
-    pub fn recovery_line_restart_order(
-        shape: *const u64,
-        shape_len: usize,
-        sent: *const Counter,
-        sent_len: usize,
-        received: *const Counter,
-        received_len: usize,
-        purpose: u64,
-        order: *mut u64,
-        order_len: usize,
-    ) -> u32;
+    /// The version of the archive, which is to be [`RECOVERY_LINE_VERSION`].
+    pub fn recovery_line_version() -> u32;
 }
+
+macro_rules! declare {
+    (($(#[$doc:meta])* $name:ident = $symbol:ident $lent:tt) ($($declared:tt)*) $handed:tt) => {
+        extern "C" {
+            $(#[$doc])*
+            pub fn $symbol($($declared)*) -> u32;
+        }
+    };
+}
+interface!(declare);

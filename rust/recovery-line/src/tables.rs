@@ -1,5 +1,6 @@
 //! Books in memory: the shape and the two tables.
 
+use crate::builder::BookBuilder;
 use crate::initiator::Initiator;
 use crate::messages::Messages;
 use crate::names::{Checkpoint, Count, Process, Purpose};
@@ -9,9 +10,10 @@ use crate::raw;
 use crate::refusal::Refusal;
 use crate::set::{Line, Search, Set};
 use crate::sys::{
-    Counter, RECOVERY_LINE_BOOK_BYTES, RECOVERY_LINE_INITIATOR_WORDS, RECOVERY_LINE_ORDER_WORDS,
-    RECOVERY_LINE_PAIR_WORDS, RECOVERY_LINE_PARTICIPANT_WORDS, RECOVERY_LINE_PROCESSES, RECOVERY_LINE_SET_WORDS,
-    RECOVERY_LINE_SHAPE_COUNTS_AT as COUNTS, RECOVERY_LINE_SHAPE_WORDS, RECOVERY_LINE_TABLE_ENTRIES,
+    Counter, RECOVERY_LINE_BOOK_BYTES, RECOVERY_LINE_INITIATOR_WORDS, RECOVERY_LINE_N_AT as N,
+    RECOVERY_LINE_ORDER_WORDS, RECOVERY_LINE_PAIR_WORDS, RECOVERY_LINE_PARTICIPANT_WORDS, RECOVERY_LINE_PROCESSES,
+    RECOVERY_LINE_SET_WORDS, RECOVERY_LINE_SHAPE_COUNTS_AT as COUNTS, RECOVERY_LINE_SHAPE_WORDS,
+    RECOVERY_LINE_TABLE_ENTRIES,
 };
 use std::fmt;
 
@@ -26,6 +28,7 @@ pub type Table = Box<[Counter; RECOVERY_LINE_TABLE_ENTRIES]>;
 /// Every method puts the questions of tables again, so that tables from elsewhere ([`Tables::from_parts`]) are refused where
 /// they are wrong, and tables that were read from a book never are.
 #[derive(Clone, PartialEq, Eq)]
+#[must_use = "tables only say something when they are looked at"]
 pub struct Tables {
     shape: Shape,
     sent: Table,
@@ -73,6 +76,11 @@ impl Tables {
         raw::read_journal(bytes, &mut self.shape, &mut self.sent[..], &mut self.received[..])
     }
 
+    /// Begins a book of n processes, to which checkpoints are appended one by one.
+    pub fn builder(n: u64) -> BookBuilder {
+        BookBuilder::new(n)
+    }
+
     /// What a read fills: no book yet.
     fn of_zeros() -> Tables {
         Tables {
@@ -88,6 +96,7 @@ impl Tables {
     }
 
     /// Gives back the shape, the sent and the received table.
+    #[must_use]
     pub fn into_parts(self) -> (Shape, Table, Table) {
         (self.shape, self.sent, self.received)
     }
@@ -150,7 +159,7 @@ impl Tables {
         known: impl Fn(Process) -> Option<Count>,
     ) -> Result<Option<Process>, Refusal> {
         let column: [Counter; RECOVERY_LINE_PROCESSES] =
-            std::array::from_fn(|place| Count::entry(known(Process::new(place as u64 + 1))));
+            std::array::from_fn(|place| Count::entry(known(Process::at(place))));
         let mut partner = 0;
         raw::test_checkpoint(
             &self.shape,
@@ -262,44 +271,54 @@ impl Tables {
     }
 
     /// The number of processes, n.
+    #[must_use]
     pub fn processes(&self) -> u64 {
-        self.shape[0]
+        self.shape[N]
     }
 
     /// How many checkpoints a process has; 0 for an absent one.
+    #[must_use]
     pub fn checkpoints(&self, process: Process) -> u64 {
-        process.place().map_or(0, |place| self.shape[COUNTS + place])
+        let place = process.place_among(self.processes());
+        place.map_or(0, |place| self.shape[COUNTS + place])
     }
 
-    /// How many messages a process had sent to its partner at a checkpoint, if there is such a checkpoint.
+    /// How many messages a process had sent to a partner at a checkpoint; `None` if there is no such process, checkpoint or
+    /// partner, which is another process: nobody sends to himself.
+    #[must_use]
     pub fn sent_to(&self, process: Process, checkpoint: Checkpoint, partner: Process) -> Option<Count> {
         let entry = self.entry(process, checkpoint, partner)?;
         Some(Count::new(u64::from(*self.sent.get(entry)?)))
     }
 
-    /// How many messages a process had received from its partner at a checkpoint, if there is such a checkpoint.
+    /// How many messages a process had received from a partner at a checkpoint; `None` where [`Tables::sent_to`] has none.
+    #[must_use]
     pub fn received_from(&self, process: Process, checkpoint: Checkpoint, partner: Process) -> Option<Count> {
         let entry = self.entry(process, checkpoint, partner)?;
         Some(Count::new(u64::from(*self.received.get(entry)?)))
     }
 
     /// The shape: n, then sixteen counts of checkpoints.
+    #[must_use]
     pub fn shape(&self) -> &Shape {
         &self.shape
     }
 
     /// The sent counters.
+    #[must_use]
     pub fn sent(&self) -> &[Counter; RECOVERY_LINE_TABLE_ENTRIES] {
         &self.sent
     }
 
     /// The received counters.
+    #[must_use]
     pub fn received(&self) -> &[Counter; RECOVERY_LINE_TABLE_ENTRIES] {
         &self.received
     }
 
     fn entry(&self, process: Process, checkpoint: Checkpoint, partner: Process) -> Option<usize> {
-        let (place, column) = (process.place()?, partner.place()?);
+        let n = self.processes();
+        let (place, column) = (process.place_among(n)?, partner.place_beside(process, n)?);
         let number = checkpoint.number();
         if number == 0 || number > self.shape[COUNTS + place] {
             return None;

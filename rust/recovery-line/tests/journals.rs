@@ -88,9 +88,9 @@ fn a_refusal_says_its_question() {
     let sentence = |journal: &[u8]| Tables::read_journal(journal).unwrap_err().to_string();
     assert_eq!(
         sentence(&[2, 2, 1, 2]),
-        "question 20: Of a receipt: is a message underway from the partner to the process?"
+        "refused by question 20: Of a receipt: is a message underway from the partner to the process?"
     );
-    assert!(sentence(&[2, 4]).starts_with("question 19: Is the event formed"));
+    assert!(sentence(&[2, 4]).starts_with("refused by question 19: Is the event formed"));
 }
 
 #[test]

@@ -108,7 +108,7 @@ fn refused_messages_change_no_machine() {
         assert_eq!(initiator.receive(&tables, message).unwrap_err().question(), question);
         assert_eq!(initiator, initiator_before);
     }
-    second.receive(&tables, &invitation).unwrap();
+    let _ = second.receive(&tables, &invitation).unwrap();
     let searching = second.clone();
     assert_eq!(second.receive(&tables, &[2, 3, 1, 1, 1, 9]).unwrap_err().question(), 16);
     assert_eq!(second, searching);

@@ -92,7 +92,7 @@ fn a_machine_says_why_it_fell() {
     assert_eq!(why(&|partner| participant.known(partner)), None);
     let report = participant.receive(&tables, invitations.to(one).unwrap()).unwrap();
     assert_eq!(why(&|partner| participant.known(partner)), Some(two));
-    initiator.receive(&tables, report.to(two).unwrap()).unwrap();
+    let _ = initiator.receive(&tables, report.to(two).unwrap()).unwrap();
     assert_eq!(why(&|partner| initiator.known(partner, one)), Some(two));
     assert_eq!(participant.candidate(), Checkpoint::OLDEST);
 

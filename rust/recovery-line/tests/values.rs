@@ -18,10 +18,13 @@ fn tables() -> Tables {
 #[test]
 fn a_refusal_says_its_question() {
     let refusal = Tables::read(&[2, 1, 1, 0, 1, 0, 0]).unwrap_err();
-    assert_eq!(refusal.to_string(), "question 7: Is it zero, in an oldest checkpoint?");
+    assert_eq!(
+        refusal.to_string(),
+        "refused by question 7: Is it zero, in an oldest checkpoint?"
+    );
     assert_eq!(
         Refusal::WRONG_LENGTH.to_string(),
-        "100: A slice of words, or of sixteen counters, has the wrong length."
+        "refused by 100: A slice of words, or of sixteen counters, has the wrong length."
     );
     let as_error: Box<dyn Error + Send + Sync> = refusal.into();
     assert_eq!(as_error.to_string(), refusal.to_string());
@@ -124,7 +127,7 @@ fn machines_are_brought_back() {
 fn a_session_is_brought_back() {
     let tables = tables();
     let mut session = Session::start(&tables, Process::new(1), Purpose::Advance).unwrap();
-    while let Some(participant) = session.waiting().last() {
+    while let Some(participant) = session.waiting().next_back() {
         session = Session::from_words(session.words(), session.strands()).unwrap();
         session.turn(&tables, participant).unwrap();
     }

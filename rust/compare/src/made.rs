@@ -1,0 +1,54 @@
+//! Books made by the Rust wrapper: checkpoint by checkpoint, and event by event.
+
+use crate::book::Book;
+use crate::journals::{Journal, RECEIVED, SENT};
+use recovery_line::{BookBuilder, Count, Process, Refusal, Tables};
+
+/// The book that the builder makes of a book's checkpoints: the oldest of all processes come first, and of processes the last.
+/// Counters that are as in the checkpoint before are not named.
+pub fn by_checkpoints(book: &Book) -> Result<Book, Refusal> {
+    let mut builder = Tables::builder(book.n() as u64);
+    let newest = book.newest().into_iter().max().unwrap_or(0);
+    for r in 1..=newest {
+        let having = (1..=book.n()).rev().filter(|&j| r <= book.count(j));
+        having.for_each(|j| append(&mut builder, book, j, r));
+    }
+    Ok(book_in(&builder.build()?))
+}
+
+/// Appends process j's checkpoint r.
+fn append(builder: &mut BookBuilder, book: &Book, j: usize, r: usize) {
+    let mut newest = builder.checkpoint(Process::new(j as u64));
+    for p in (1..=book.n()).filter(|&p| r > 1 && p != j) {
+        let partner = Process::new(p as u64);
+        if book.sent_at(j, r, p) != book.sent_at(j, r - 1, p) {
+            newest = newest.sent_to(partner, Count::new(book.sent_at(j, r, p)));
+        }
+        if book.received_at(j, r, p) != book.received_at(j, r - 1, p) {
+            newest = newest.received_from(partner, Count::new(book.received_at(j, r, p)));
+        }
+    }
+}
+
+/// The journal that the wrapper writes of a journal's events.
+pub fn by_events(journal: &Journal) -> recovery_line::Journal {
+    let mut made = recovery_line::Journal::new(journal.n);
+    for event in &journal.events {
+        let (process, partner) = (Process::new(event.process), Process::new(event.partner));
+        match event.kind {
+            SENT => made.sent(process, partner),
+            RECEIVED => made.received(process, partner),
+            _ => made.checkpoint(process),
+        };
+    }
+    made
+}
+
+/// The book in the wrapper's tables.
+pub fn book_in(tables: &Tables) -> Book {
+    Book {
+        shape: *tables.shape(),
+        sent: tables.sent().to_vec(),
+        received: tables.received().to_vec(),
+    }
+}

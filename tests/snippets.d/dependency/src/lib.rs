@@ -1,0 +1,1 @@
+pub const NINE: u32 = 9;
