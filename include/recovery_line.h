@@ -41,8 +41,8 @@
  *   set, line    sixteen checkpoint numbers; 0 for absent processes.
  *   pair         two process numbers; 0 0 for none.
  *   lengths      how many bytes were written for each of sixteen processes; 0 for none.
- *   order        sixteen checkpoints restarted from, numbered as before the move; sixteen numbers of those that go before it,
- *                sixteen of those after.
+ *   order        sixteen checkpoints restarted from (with purpose 1 the line's: nobody restarts), numbered as before the move;
+ *                how many older ones are dropped, for each of sixteen; and how many newer ones.
  *   participant  n, process, initiator, purpose, stage, candidate; then sixteen counters of the row that it last reported, and
  *                sixteen of its column: what each other process is known to have sent to it.
  *   initiator    n, process, purpose, whether it has ended, candidate, rounds; then sixteen flags of who is awaited; the
@@ -168,10 +168,13 @@ typedef uint32_t recovery_line_counter;
  * messages. */
 #define RECOVERY_LINE_NOT_KNOWN 4294967295u
 
-/* Purposes. */
-#define RECOVERY_LINE_ADVANCE 1 /* the line */
-#define RECOVERY_LINE_RESTART 2 /* only, from checkpoint 1 */
-#define RECOVERY_LINE_ADVANCE_AND_RESTART 3 /* from the line */
+/* Purposes.
+ * 1: the line's checkpoints become the oldest; older ones are dropped, newer ones are kept.
+ * 2: no search: everybody goes back to checkpoint 1, and newer ones are dropped.
+ * 3: both: only the line's checkpoints are kept, and everybody restarts from them. */
+#define RECOVERY_LINE_ADVANCE 1
+#define RECOVERY_LINE_RESTART 2
+#define RECOVERY_LINE_ADVANCE_AND_RESTART 3
 
 /* Kinds of messages. */
 #define RECOVERY_LINE_INVITATION 1
@@ -278,9 +281,11 @@ RECOVERY_LINE_NODISCARD uint32_t recovery_line_find(
     const recovery_line_counter *received, size_t received_len, uint64_t *line, size_t line_len, uint64_t *passed);
 
 /* Makes a participant's first state, before its invitation. Beyond the check, the calls of the machines go by n and the rows of
- * their own process: who has no others lends one checkpoint of zeros for each other process. A checkpoint that the worker takes
- * while its machine runs is lent after the search: before, question 13 refuses it, of a participant that was not yet invited
- * always, else where what the machine knows permits that checkpoint.
+ * their own process: who has no others lends one checkpoint of zeros for each other process. (On such tables a set is not
+ * tested, no line found or moved and no session run: those need the whole book.) A checkpoint that the worker takes while its
+ * machine runs is lent after the search: before, question 13 refuses it where what the machine knows, an initiator when its
+ * present wait began, permits that checkpoint; so it always does before a participant is invited, and in an initiator's first
+ * wait. Messages are carried as rline_machines.h says: each to its receiver, once and whole.
  * Questions: the tables', 10, 11.
  * Stack: 2048 bytes. */
 RECOVERY_LINE_NODISCARD uint32_t recovery_line_participant_first(
@@ -337,8 +342,8 @@ RECOVERY_LINE_NODISCARD uint32_t recovery_line_session_turn(
     uint64_t p, uint8_t *strands, size_t strands_len);
 
 /* A search from its start to its end, lowest waiting strand first: the set on which everybody ended, how many checkpoints are
- * newer than it, and the rounds and messages that it took. With purpose 1 or 3 `set` and `newer` are the line and T; with
- * purpose 2 checkpoint 1 everywhere, and how many checkpoints are newer than those.
+ * newer than it, and the rounds and messages that it took. With purpose 1 or 3 `set` is the line; with purpose 2 checkpoint 1
+ * everywhere. It needs the whole book.
  * Questions: the tables', 10, 11.
  * Stack: 51200 bytes. */
 RECOVERY_LINE_NODISCARD uint32_t recovery_line_search(

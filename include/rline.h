@@ -9,10 +9,13 @@
  * One struct holds the tables, so that sent and received counters cannot change places, and a process is no checkpoint. Both
  * are numbered from 1; 0 is none. In C and C++ `const rline_process first = {1};` makes one.
  *
- * Every function that returns a uint32_t answers, does and refuses as the function of recovery_line.h that it calls, and a
- * refused call changes nothing here too. What recovery_line.h says of threads and of overlaps holds here, and
- * RECOVERY_LINE_STACK_BYTES suffice. Objects are initialised before they are lent: `static`, or `= {0}` in C and `{}` in C++. A
- * look (a function that returns anything else) asks nothing: of a process or a checkpoint that there is not it gives 0.
+ * Every function that returns a uint32_t answers, does and refuses as the function of recovery_line.h that it calls, and but
+ * for rline_own_tables a refused call changes nothing here too. What recovery_line.h says of threads and of overlaps holds
+ * here, and RECOVERY_LINE_STACK_BYTES suffice. A look (a function that returns anything else) asks nothing: of a process or a
+ * checkpoint that there is not it gives 0.
+ *
+ * Tables, machines, sessions, messages, orders and buffers are initialised before they are lent: `static`, or `= {0}` in C and
+ * `{}` in C++. Small results (a line, a fault, a partner, a search's result, a length) need not be.
  */
 #ifndef RLINE_H
 #define RLINE_H
@@ -56,8 +59,8 @@ typedef struct rline_known {
     recovery_line_counter sent[RECOVERY_LINE_PROCESSES];
 } rline_known;
 
-/* A restart order, and what it says of one process: where it restarts, numbered as before a move, and how many checkpoints go
- * that are older and newer. */
+/* A restart order, and what it says of one process: its checkpoint `from`, numbered as before a move, and how many checkpoints
+ * before it (older ones) and after it (newer ones) are dropped. With purpose 1 nobody restarts: `from` is the line's. */
 typedef struct rline_order {
     uint64_t words[RECOVERY_LINE_ORDER_WORDS];
 } rline_order;
@@ -144,9 +147,17 @@ RECOVERY_LINE_NODISCARD static inline uint64_t rline_checkpoints(const rline_tab
     return rline_word(tables->shape + RECOVERY_LINE_SHAPE_COUNTS_AT, process);
 }
 
+/* The set of newest checkpoints. */
+RECOVERY_LINE_NODISCARD static inline rline_set rline_newest(const rline_tables *tables) {
+    rline_set set;
+    memcpy(set.checkpoints, tables->shape + RECOVERY_LINE_SHAPE_COUNTS_AT, sizeof set.checkpoints);
+    return set;
+}
+
 /* Journals: what happened among the workers, event by event in the order in which it did. Checkpoint 1 of every process is
- * there from the start. What does not fit its buffer fills a journal: neither that nor anything later is written. What is no
- * event is written as it is; whether a journal can be used is answered when it is read. */
+ * there from the start. Where processes are numbered 1 to 16, n takes one byte, a checkpoint 2, and every other event 3. What
+ * does not fit its buffer fills a journal: neither that nor anything later is written. What is no event is written as it is;
+ * whether a journal can be used is answered when it is read. Named first is the process that does it, then its partner. */
 
 /* The most bytes of a 64-bit number in groups of seven bits, and of an event: its kind and two numbers. */
 #define RLINE_NUMBER_BYTES ((64 + 6) / 7)
@@ -222,7 +233,7 @@ static inline void rline_set_put(rline_set *set, rline_process process, rline_ch
     }
 }
 
-/* Tests whether the set is consistent; if not, `fault` becomes the first pair at fault. */
+/* Tests whether the set is consistent, which needs the whole book; if not, `fault` becomes the first pair at fault. */
 RECOVERY_LINE_NODISCARD static inline uint32_t rline_test_set(const rline_tables *tables, const rline_set *set,
                                                               rline_fault *fault) {
     uint64_t pair[RECOVERY_LINE_PAIR_WORDS] = {0};
@@ -236,7 +247,7 @@ RECOVERY_LINE_NODISCARD static inline uint32_t rline_test_set(const rline_tables
 
 /* Of nobody anything is known, which permits everything. */
 RECOVERY_LINE_NODISCARD static inline rline_known rline_nothing_known(void) {
-    rline_known known;
+    rline_known known = {{0}};
     for (int p = 0; p < RECOVERY_LINE_PROCESSES; p++) {
         known.sent[p] = RECOVERY_LINE_NOT_KNOWN;
     }
@@ -264,7 +275,7 @@ RECOVERY_LINE_NODISCARD static inline uint32_t rline_test_checkpoint(const rline
     return answer;
 }
 
-/* Finds the line. */
+/* Finds the line, which needs the whole book, not a worker's own tables. */
 RECOVERY_LINE_NODISCARD static inline uint32_t rline_find(const rline_tables *tables, rline_line *line) {
     uint64_t set[RECOVERY_LINE_SET_WORDS] = {0}, passed = 0;
     uint32_t answer = recovery_line_find(RLINE_TABLES(tables), RLINE_ARRAY(set), &passed);
@@ -275,7 +286,7 @@ RECOVERY_LINE_NODISCARD static inline uint32_t rline_find(const rline_tables *ta
     return answer;
 }
 
-/* Finds it by messages, all machines in this one call; purpose 2 ends on checkpoint 1 everywhere. */
+/* Finds it by messages, all machines in this one call, on the whole book; purpose 2 ends on checkpoint 1 everywhere. */
 RECOVERY_LINE_NODISCARD static inline uint32_t rline_search(const rline_tables *tables, rline_process initiator,
                                                             uint64_t purpose, rline_search_result *result) {
     uint64_t set[RECOVERY_LINE_SET_WORDS] = {0}, newer = 0, rounds = 0, messages = 0;
@@ -292,7 +303,7 @@ RECOVERY_LINE_NODISCARD static inline uint32_t rline_search(const rline_tables *
 
 /* Restarts. */
 
-/* Moves the line in the tables, and gives the restart order. */
+/* Moves the line in the tables, which needs the whole book, not a worker's own tables, and gives the restart order. */
 RECOVERY_LINE_NODISCARD static inline uint32_t rline_move(rline_tables *tables, uint64_t purpose, rline_order *order) {
     return recovery_line_move(RLINE_TABLES(tables), purpose, RLINE_ARRAY(order->words));
 }
@@ -312,6 +323,7 @@ RECOVERY_LINE_NODISCARD static inline rline_restart rline_order_get(const rline_
 }
 
 #include "rline_machines.h"
+#include "rline_worker.h"
 
 #undef RLINE_ARRAY
 #undef RLINE_TABLES

@@ -8,7 +8,13 @@
 #define RLINE_MACHINES_H
 
 /* Each worker has a machine: one is the initiator, all others are participants. Beyond the check, a machine goes by the rows of
- * its own process, which stay as they are until it has ended: a checkpoint taken meanwhile is lent afterwards. */
+ * its own process, which stay as they are until it has ended: a checkpoint taken meanwhile is lent afterwards. Who has no other
+ * rows makes tables by rline_own_tables.
+ *
+ * A message does not say to whom it goes. Carry each to its receiver, once and whole: one that is given to another worker, or
+ * given twice, may be accepted, and the search may then end elsewhere, even on a set that is not consistent. What a step has
+ * given must be sent, since no step can be taken again: who stores a machine's words stores with them the messages of its last
+ * step, until they are sent. */
 typedef struct rline_participant {
     uint64_t words[RECOVERY_LINE_PARTICIPANT_WORDS];
 } rline_participant;
@@ -48,6 +54,27 @@ RECOVERY_LINE_NODISCARD static inline rline_message rline_message_of(const uint8
     return message;
 }
 
+/* Where the second and the third number of a message stand, each of which is one byte in a message that is formed, as is the
+ * first; and the lowest byte that is no number by itself. */
+#define RLINE_MESSAGE_PURPOSE_AT 1
+#define RLINE_MESSAGE_SENDER_AT (RLINE_MESSAGE_PURPOSE_AT + 1)
+#define RLINE_ANOTHER_FOLLOWS 0x80
+
+/* The number of one byte at a place; 0 where there is none. */
+RECOVERY_LINE_NODISCARD static inline uint64_t rline_message_byte(const rline_message *message, size_t at) {
+    return at < message->length && message->bytes[at] < RLINE_ANOTHER_FOLLOWS ? message->bytes[at] : 0;
+}
+
+/* For what a message is sent. Whether the message is formed is answered when it is received. */
+RECOVERY_LINE_NODISCARD static inline uint64_t rline_message_purpose(const rline_message *message) {
+    return rline_message_byte(message, RLINE_MESSAGE_PURPOSE_AT);
+}
+
+/* Who sends it. */
+RECOVERY_LINE_NODISCARD static inline rline_process rline_message_sender(const rline_message *message) {
+    return rline_process_number(rline_message_byte(message, RLINE_MESSAGE_SENDER_AT));
+}
+
 /* What was sent to that receiver. */
 RECOVERY_LINE_NODISCARD static inline rline_message rline_message_to(const rline_messages *messages,
                                                                      rline_process receiver) {
@@ -60,7 +87,8 @@ RECOVERY_LINE_NODISCARD static inline rline_message rline_message_to(const rline
 
 /* Machines. */
 
-/* Makes the machine of process `me`, before its invitation. */
+/* Makes the machine of process `me`, before its invitation, which it is to receive then. Who begins, and for what, a worker
+ * learns from that: rline_message_sender, rline_message_purpose. */
 RECOVERY_LINE_NODISCARD static inline uint32_t rline_participant_first(rline_participant *machine,
                                                                        const rline_tables *tables, rline_process me,
                                                                        rline_process initiator, uint64_t purpose) {
@@ -155,6 +183,15 @@ RECOVERY_LINE_NODISCARD static inline int rline_session_ended(const rline_sessio
     uint64_t ended = rline_session_is_initiator(session, process) ? RECOVERY_LINE_ENDED : RECOVERY_LINE_STAGE_ENDED;
     return rline_session_word(session, process, RECOVERY_LINE_INITIATOR_ENDED_AT, RECOVERY_LINE_PARTICIPANT_STAGE_AT) ==
            ended;
+}
+
+/* Whether all workers have ended. */
+RECOVERY_LINE_NODISCARD static inline int rline_session_all_ended(const rline_session *session) {
+    uint64_t n = session->words[RECOVERY_LINE_N_AT], ended = 0;
+    while (ended < n && rline_session_ended(session, rline_process_number(ended + 1))) {
+        ended++;
+    }
+    return n != 0 && ended == n;
 }
 
 /* The checkpoint on which the worker stands. */

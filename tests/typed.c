@@ -102,6 +102,8 @@ static void writes(void) {
     same(rline_check(&typed.tables), recovery_line_check(PLAIN_TABLES), 0, "check");
     expect(rline_processes(&typed.tables) == processes, "processes", "is n");
     expect(rline_checkpoints(&typed.tables, third) == newest, "checkpoints", "is the count");
+    const rline_set all_newest = {{newest, newest, newest}}, seen = rline_newest(&typed.tables);
+    expect(memcmp(&seen, &all_newest, sizeof seen) == 0, "newest", "is the newest of each");
     end_group("tables are written and checked");
 }
 
@@ -206,6 +208,7 @@ static void moves(void) {
 
 #include "typed_journal.h"
 #include "typed_machines.h"
+#include "typed_worker.h"
 
 /* Looks at a process after the last, and at numbers that no process has, where nothing is 0. */
 static void absent_processes(void) {
@@ -269,6 +272,13 @@ int main(void) {
     machines();
     longest_message();
     sessions();
+    ended_sessions();
+    counting();
+    counts_are_seen();
+    shapes_are_no_places();
+    searches_on_own_tables();
+    wrong_own_tables();
+    heads_are_seen();
     absent_processes();
     no_tables();
     return any_failed ? 1 : 0;

@@ -154,6 +154,7 @@ static void session_is_seen(bool ended, uint64_t rounds, uint64_t deliveries) {
         expect(rline_session_waits(&typed.session, worker) == (!ended && p != second.number), "session_waits",
                "is each participant's");
     }
+    expect(rline_session_all_ended(&typed.session) == ended, "session_all_ended", "is all workers'");
     expect(rline_session_rounds(&typed.session) == rounds, "session_rounds", "counts the rounds");
     expect(rline_session_delivered(&typed.session) == deliveries, "session_delivered", "counts the deliveries");
 }
@@ -169,6 +170,7 @@ static void sessions(void) {
     for (uint64_t p = 1; rline_session_waits(&typed.session, first) || rline_session_waits(&typed.session, third); p = 4 - p) {
         const rline_process worker = rline_process_number(p);
         bool waits = rline_session_waits(&typed.session, worker);
+        expect(!rline_session_all_ended(&typed.session), "session_all_ended", "not while a message waits");
         turns += waits;
         turn_both(worker, waits ? 0 : 18);
     }
@@ -176,4 +178,25 @@ static void sessions(void) {
     expect(turns == 10, "session_turn", "ends after ten messages");
     session_is_seen(true, 2, turns);
     end_group("sessions take their turns");
+}
+
+/* Words in which whoever there can be has ended. */
+static void ended_sessions(void) {
+    static rline_session session;
+    expect(!rline_session_all_ended(&session), "session_all_ended", "not where there is nobody");
+    for (int i = 0; i < RECOVERY_LINE_SESSION_WORDS; i++) {
+        session.words[i] = RECOVERY_LINE_STAGE_ENDED;
+    }
+    session.words[RECOVERY_LINE_SESSION_MACHINE_AT + RECOVERY_LINE_INITIATOR_ENDED_AT] = RECOVERY_LINE_ENDED;
+    session.words[RECOVERY_LINE_N_AT] = PROCESSES;
+    expect(rline_session_all_ended(&session), "session_all_ended", "is all sixteen workers'");
+    session.words[RECOVERY_LINE_N_AT] = PROCESSES + 1;
+    expect(!rline_session_all_ended(&session), "session_all_ended", "not of more workers than there can be");
+    session.words[RECOVERY_LINE_N_AT] = UINT64_MAX;
+    expect(!rline_session_all_ended(&session), "session_all_ended", "not of more workers than there can be");
+    session.words[RECOVERY_LINE_N_AT] = PROCESSES;
+    session.words[RECOVERY_LINE_SESSION_LENGTHS_AT - RECOVERY_LINE_PARTICIPANT_WORDS + RECOVERY_LINE_PARTICIPANT_STAGE_AT] =
+        RECOVERY_LINE_STAGE_SEARCHING;
+    expect(!rline_session_all_ended(&session), "session_all_ended", "not while the last worker searches");
+    end_group("a session has ended when all workers have");
 }

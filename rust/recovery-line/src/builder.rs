@@ -14,6 +14,9 @@ type Row = [u64; RECOVERY_LINE_PROCESSES];
 /// of different processes in any. A counter that is not named stays what it was at the process's checkpoint before, and is zero
 /// at the oldest.
 ///
+/// Messages are counted from the present line, which the oldest checkpoints are: there every counter is zero, as question 7 asks.
+/// Who counts from the start of the program takes the oldest checkpoint's counters off those of each.
+///
 /// ```
 /// use recovery_line::{Count, Process, Tables};
 ///
@@ -80,12 +83,43 @@ impl BookBuilder {
         }
     }
 
-    /// Makes the bytes of the book, and reads them as [`Tables::read`] does: what questions 1 to 9 refuse is refused by them, as
-    /// a process without a checkpoint by 5, and a counter that is too large by 3 or 6, above zero in an oldest checkpoint by
-    /// 7, or lower than the one before by 8.
+    /// Appends one checkpoint of zeros for every process that has none yet.
+    ///
+    /// So a worker that knows only its own checkpoints makes the tables that it lends its machine
+    /// ([Between machines](crate#between-machines)):
+    ///
+    /// ```
+    /// use recovery_line::{Count, Process, Purpose, Tables};
+    ///
+    /// # fn main() -> Result<(), recovery_line::Refusal> {
+    /// let (me, partner) = (Process::new(2), Process::new(1));
+    /// let mut book = Tables::builder(3);
+    /// book.checkpoint(me); // the oldest, of zeros
+    /// book.checkpoint(me).sent_to(partner, Count::new(3));
+    /// let own = book.zeros_elsewhere().build()?;
+    /// assert_eq!(own.newest().to_string(), "1 2 1");
+    /// let (machine, invitations) = own.initiator(me, Purpose::Advance)?;
+    /// assert_eq!((machine.process(), invitations.len()), (me, 2));
+    /// # Ok(())
+    /// # }
+    /// ```
+    pub fn zeros_elsewhere(&mut self) -> &mut BookBuilder {
+        for process in present(self.n) {
+            if self.checkpoints.iter().all(|of| of.process != process) {
+                self.checkpoint(process);
+            }
+        }
+        self
+    }
+
+    /// Makes the bytes of the book, and reads them as [`Tables::read`] does: of a process without a checkpoint question 5
+    /// refuses it, of a counter that is too large 3 or 6, of one above zero in an oldest checkpoint 7, and of one lower than in
+    /// the checkpoint before 8.
     ///
     /// What has no place in a book is asked after that: a counter above zero for a partner that is absent, or the process
     /// itself, is refused by 9, as it would be in tables, and a checkpoint of an absent process by 10.
+    ///
+    /// Refused by: 1, then along the book 3 to 8, then 9, 10.
     pub fn build(&self) -> Result<Tables, Refusal> {
         let tables = Tables::read(&self.bytes())?;
         if self.misplaced {
@@ -104,28 +138,27 @@ impl BookBuilder {
     fn bytes(&self) -> Vec<u8> {
         let mut bytes = Vec::new();
         push_number(&mut bytes, self.n);
-        sixteen()
-            .filter(|process| process.place_among(self.n).is_some())
-            .for_each(|process| self.push_process(&mut bytes, process));
+        present(self.n).for_each(|process| self.push_process(&mut bytes, process));
         bytes
     }
 
     fn push_process(&self, bytes: &mut Vec<u8>, process: Process) {
         let own = self.checkpoints.iter().filter(|of| of.process == process);
         push_number(bytes, own.clone().count() as u64);
-        let places = || sixteen().filter_map(|partner| partner.place_beside(process, self.n));
+        let places = || present(self.n).filter_map(|partner| partner.place_beside(process, self.n));
         let counters = own.flat_map(|of| places().map(|p| of.sent[p]).chain(places().map(|p| of.received[p])));
         counters.for_each(|counter| push_number(bytes, counter));
     }
 }
 
-/// The processes that a book can have: of a larger n nothing but the number is read.
-fn sixteen() -> impl Iterator<Item = Process> {
-    Process::all(RECOVERY_LINE_PROCESSES as u64)
+/// The processes of a book of n, at most sixteen: of a larger n nothing but the number is read.
+fn present(n: u64) -> impl Iterator<Item = Process> {
+    Process::all(n.min(RECOVERY_LINE_PROCESSES as u64))
 }
 
 impl NewCheckpoint<'_> {
-    /// At this checkpoint its process had sent so many messages to a partner.
+    /// At this checkpoint its process had sent so many messages to a partner, counted from the present line: from its oldest
+    /// checkpoint, where question 7 asks for zero.
     pub fn sent_to(self, partner: Process, count: Count) -> Self {
         match self.place_of(partner) {
             Some(place) => self.counters.sent[place] = count.number(),
@@ -134,7 +167,7 @@ impl NewCheckpoint<'_> {
         self
     }
 
-    /// At this checkpoint its process had received so many messages from a partner.
+    /// At this checkpoint its process had received so many messages from a partner, counted as by [`NewCheckpoint::sent_to`].
     pub fn received_from(self, partner: Process, count: Count) -> Self {
         match self.place_of(partner) {
             Some(place) => self.counters.received[place] = count.number(),

@@ -13,7 +13,7 @@ macro_rules! must_not_be_dropped {
         concat!(
             "```", $mode, "\n",
             "#![deny(unused_must_use)]\n",
-            "use recovery_line::{Journal, Participant, Process, Purpose, Refusal, Session, Set, Tables};\n",
+            "use recovery_line::{Head, Journal, Participant, Process, Purpose, Refusal, Session, Set, Tables};\n",
             "fn drops(mut tables: Tables, one: Process, two: Process, advance: Purpose) -> Result<(), Refusal> {\n",
             $kept, $made, ";\n",
             "Ok(())\n",
@@ -33,6 +33,7 @@ must_not_be_dropped! {
     sets: "tables.find_line()?.set";
     invitations: "tables.initiator(one, advance)?.1";
     replies: "tables.participant(one, two, advance)?.receive(&tables, &[])?";
+    first_reports: "tables.invited(one, &[])?.1";
     initiators: "tables.initiator(one, advance)?.0";
     participants: "tables.participant(one, two, advance)?";
     sessions: "Session::start(&tables, one, advance)?";
@@ -40,4 +41,5 @@ must_not_be_dropped! {
     journals: "Journal::new(1)";
     iterators: "tables.move_line(advance)?.iter()";
     looks: "tables.processes()";
+    heads: "Head::of(&[])";
 }

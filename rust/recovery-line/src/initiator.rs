@@ -13,7 +13,8 @@ use crate::sys::{
 };
 use crate::tables::Tables;
 
-/// The machine of the worker that begins a search; [`Tables::initiator`] makes it.
+/// The machine of the worker that begins a search; [`Tables::initiator`] makes it. How it is used shows
+/// [Between machines](crate#between-machines).
 #[derive(Clone, Debug, PartialEq, Eq)]
 #[must_use = "a search waits for every machine"]
 pub struct Initiator(Box<[u64; RECOVERY_LINE_INITIATOR_WORDS]>);
@@ -25,6 +26,8 @@ impl Initiator {
 
     /// Receives a participant's report and, when it was the last one awaited, takes its step; what it sends (nothing, polls
     /// or terminations) is to be delivered to the participants.
+    ///
+    /// Refused by: the tables' questions, 10, 13, 14, 15, 16.
     pub fn receive(&mut self, tables: &Tables, message: &[u8]) -> Result<Messages, Refusal> {
         Messages::written(|out, lengths| {
             raw::initiator_receive(
@@ -57,7 +60,7 @@ impl Initiator {
         self.0[ENDED] != RECOVERY_LINE_NOT_ENDED
     }
 
-    /// The checkpoint that it stands on.
+    /// The checkpoint that it stands on: once all have ended that of the line, with [`Purpose::Restart`] checkpoint 1.
     #[must_use]
     pub fn candidate(&self) -> Checkpoint {
         Checkpoint::new(self.0[CANDIDATE])
@@ -85,7 +88,7 @@ impl Initiator {
         Count::known(self.0[MATRIX + entry])
     }
 
-    /// The state as words, to be stored.
+    /// The state as words, to be stored, and with them the messages of its last step until they are sent.
     #[must_use]
     pub fn words(&self) -> &[u64; RECOVERY_LINE_INITIATOR_WORDS] {
         &self.0

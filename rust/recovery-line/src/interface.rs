@@ -63,9 +63,9 @@ macro_rules! interface {
         fn session_turn = recovery_line_session_turn(
             session: &mut [u64], shape: &[u64], sent: &[Counter], received: &[Counter], p: u64, strands: &mut [u8],
         );
-        /// Searches from start to end, lowest waiting strand first: the set on which everybody ended, and how many checkpoints
-        /// are newer than it, which with purpose 1 or 3 is the line and T, with purpose 2 checkpoint 1 everywhere and how many
-        /// are newer than those.
+        /// Searches from start to end, lowest waiting strand first: the set on which everybody ended, which is the line, or with
+        /// purpose 2 checkpoint 1 everywhere; how many checkpoints are newer than those of the set; and the rounds and messages
+        /// that it took.
         fn search = recovery_line_search(
             shape: &[u64], sent: &[Counter], received: &[Counter], initiator: u64, purpose: u64, set: &mut [u64],
             newer: &mut u64, rounds: &mut u64, messages: &mut u64,

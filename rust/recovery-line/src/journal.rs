@@ -10,7 +10,10 @@ use crate::tables::Tables;
 ///
 /// Checkpoint 1 of every process is there from the start. Every event is written as it is given: one that cannot be (of an
 /// absent process, of one with itself, or a receipt of what was not sent) is refused when the journal is read, by
-/// [`Journal::tables`].
+/// [`Journal::tables`]. A journal has at most [`RECOVERY_LINE_JOURNAL_BYTES`] bytes, 65,536, which is some 21,800 events of
+/// messages: a longer one is refused by question 1, though that speaks of book bytes.
+///
+/// [`RECOVERY_LINE_JOURNAL_BYTES`]: crate::sys::RECOVERY_LINE_JOURNAL_BYTES
 ///
 /// ```
 /// use recovery_line::{Checkpoint, Count, Journal, Process};
@@ -61,7 +64,9 @@ impl Journal {
         self
     }
 
-    /// The book that the journal builds, or the refusal of [`Tables::read_journal`].
+    /// The book that the journal builds, by [`Tables::read_journal`].
+    ///
+    /// Refused by: 1, of n 3 and 4, then event by event 19, 10, 20, 5.
     pub fn tables(&self) -> Result<Tables, Refusal> {
         Tables::read_journal(&self.0)
     }

@@ -3,11 +3,13 @@
 //! Which checkpoints there are, and what each had sent and received, stands in a checkpoint book. This crate reads, checks and
 //! writes such books ([`Tables`]), makes one from a [`Journal`] of events or checkpoint by checkpoint ([`BookBuilder`]), finds
 //! the recovery line, the consistent set of checkpoints that is nowhere earlier than any other, and moves it. Where no one has
-//! the whole book the workers find the line by messages: with an [`Initiator`] and [`Participant`]s of their own, or all in one
-//! place in a [`Session`].
+//! the whole book the workers find the line by messages, with an [`Initiator`] and [`Participant`]s of their own
+//! ([Between machines](#between-machines)); a [`Session`] runs all these in one place, for who has it.
 //!
-//! A call either accepts or is refused by the first question of the specification that fails ([`Refusal`]), and a refused call
-//! changes nothing. None needs another to have been made before, and none panics, but where the archive that is linked has
+//! A call either accepts or is refused by the first of its questions that fails, and a refused call changes nothing. The
+//! questions are listed in the repository's README, and [`Refusal::sentence`] has them too; with each method stand those that can
+//! refuse it, in the order in which they are put. (The C header has 2, 11 and 17 with more calls: here types and buffers leave
+//! nothing to ask.) No call needs another to have been made before, and none panics, but where the archive that is linked has
 //! another [`version`] than this crate.
 //!
 //! Whatever is asked of an absent process (0, or above n) is `None`, 0 where checkpoints are counted, and false where it is asked
@@ -53,6 +55,66 @@
 //! # Ok(())
 //! # }
 //! ```
+//!
+//! # Between machines
+//!
+//! Where each worker knows only its own checkpoints, one begins a search, and the others learn of it by their invitations. A
+//! machine receives a message and gives those that it sends, until every machine has ended, in whatever order messages come.
+//! Here one queue stands for the network:
+//!
+//! ```
+//! use recovery_line::{Checkpoint, Count, Participant, Process, Purpose, Tables};
+//! use std::collections::VecDeque;
+//!
+//! # fn main() -> Result<(), recovery_line::Refusal> {
+//! let (one, two) = (Process::new(1), Process::new(2));
+//! // Each lends its machine its own rows, with zeros for everybody else.
+//! let mut book = Tables::builder(2);
+//! book.checkpoint(one);
+//! book.checkpoint(one).received_from(two, Count::new(4));
+//! let own_of_one = book.zeros_elsewhere().build()?;
+//! let mut book = Tables::builder(2);
+//! book.checkpoint(two);
+//! book.checkpoint(two).sent_to(one, Count::new(3));
+//! let own_of_two = book.zeros_elsewhere().build()?;
+//!
+//! let (mut first, invitations) = own_of_one.initiator(one, Purpose::AdvanceAndRestart)?;
+//! let mut second: Option<Participant> = None; // until it is invited
+//! let mut queue: VecDeque<(Process, Vec<u8>)> = invitations.into_iter().collect();
+//! while let Some((receiver, message)) = queue.pop_front() {
+//!     let replies = match &mut second {
+//!         _ if receiver == one => first.receive(&own_of_one, &message)?,
+//!         Some(machine) => machine.receive(&own_of_two, &message)?,
+//!         None => {
+//!             let (machine, report) = own_of_two.invited(two, &message)?;
+//!             second = Some(machine);
+//!             report
+//!         }
+//!     };
+//!     queue.extend(replies);
+//! }
+//! let second = second.expect("it was invited");
+//! assert!(first.ended() && second.ended());
+//! assert_eq!((first.candidate(), second.candidate()), (Checkpoint::OLDEST, Checkpoint::new(2)));
+//! # Ok(())
+//! # }
+//! ```
+//!
+//! What this asks of the program around the machines:
+//! - A machine's own rows stay as they are while it searches: a checkpoint taken meanwhile is lent after the search.
+//! - Each message is delivered once, whole, and to whom it was written. A second time it is refused by 15 or 16, but a report
+//!   that says "no change" may be taken for the next one; and since a message does not name its receiver, one that is given to
+//!   another worker may be accepted. The search may then end elsewhere, even on a set that is not consistent.
+//! - What a step gives must be sent, since no step can be taken again. Who stores a machine's words stores with them the messages
+//!   of its last step until they are sent.
+//! - [`Tables::find_line`], [`Tables::test_set`], [`Tables::restart_order`], [`Tables::move_line`], [`Tables::search`] and
+//!   [`Session`] need the whole book. Tables with one worker's own rows alone are accepted too, and say that the others have
+//!   done nothing: the answer is for that book, and goes back too far.
+//! - When all have ended, every worker goes by its machine's candidate. With [`Purpose::Restart`] and
+//!   [`Purpose::AdvanceAndRestart`] it goes back to it and begins anew, with one checkpoint of zeros. With [`Purpose::Advance`]
+//!   the candidate becomes its oldest: who has the whole book moves it ([`Tables::move_line`]), and a worker that has its own
+//!   rows alone drops those before the candidate's and takes the candidate's counters off the others.
+//!
 #![doc = include_str!("../README.md")]
 #![deny(unsafe_code, missing_docs)]
 
@@ -63,8 +125,10 @@ mod builder;
 mod by_process;
 #[cfg(doctest)]
 mod dropped;
+mod head;
 mod initiator;
 mod journal;
+mod looks;
 mod messages;
 mod names;
 mod numbers;
@@ -80,6 +144,7 @@ mod tables;
 
 pub use builder::{BookBuilder, NewCheckpoint};
 pub use by_process::ByProcess;
+pub use head::Head;
 pub use initiator::Initiator;
 pub use journal::Journal;
 pub use messages::Messages;

@@ -5,7 +5,7 @@ use crate::names::Process;
 use crate::refusal::Refusal;
 use crate::sys::{RECOVERY_LINE_LENGTHS_WORDS, RECOVERY_LINE_PROCESSES, RECOVERY_LINE_STRAND_BYTES};
 
-/// The messages that a machine sends in one step, each to be delivered to its receiver.
+/// The messages that a machine sends in one step, each to be delivered to its receiver, once and whole: it does not name him.
 #[derive(Clone, Debug, PartialEq, Eq, Default)]
 #[must_use = "a message that is not delivered stalls the search for ever"]
 pub struct Messages {

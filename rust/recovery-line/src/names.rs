@@ -4,11 +4,12 @@ use crate::refusal::Refusal;
 use crate::sys;
 use std::fmt;
 
-/// Gives a tuple struct of one number its constructor, its accessor and its display.
+/// Gives a tuple struct of one number its constructor, with what becomes of a number that is none of its kind, its accessor and
+/// its display.
 macro_rules! number {
-    ($name:ident) => {
+    ($name:ident, $any:literal) => {
         impl $name {
-            /// Takes any number: whether it names something is asked by each call that it is lent to.
+            #[doc = concat!("Takes any number: ", $any)]
             #[must_use]
             pub const fn new(number: u64) -> Self {
                 $name(number)
@@ -32,7 +33,10 @@ macro_rules! number {
 /// A process, numbered from 1.
 #[derive(Clone, Copy, Debug, PartialEq, Eq, PartialOrd, Ord, Hash)]
 pub struct Process(u64);
-number!(Process);
+number!(
+    Process,
+    "whether there is such a process is asked by each call that it is lent to."
+);
 
 impl Process {
     /// The processes that a book of `n` has, in rising order.
@@ -65,7 +69,10 @@ impl Process {
 /// A checkpoint of a process, numbered from 1, the oldest.
 #[derive(Clone, Copy, Debug, PartialEq, Eq, PartialOrd, Ord, Hash)]
 pub struct Checkpoint(u64);
-number!(Checkpoint);
+number!(
+    Checkpoint,
+    "whether there is such a checkpoint is asked by each call that it is lent to."
+);
 
 impl Checkpoint {
     /// The oldest checkpoint of every process.
@@ -75,7 +82,10 @@ impl Checkpoint {
 /// A number of messages that a checkpoint had sent or received.
 #[derive(Clone, Copy, Debug, PartialEq, Eq, PartialOrd, Ord, Hash)]
 pub struct Count(u64);
-number!(Count);
+number!(
+    Count,
+    "one above the largest counter, 4,294,967,294, is refused by the book that it is given to."
+);
 
 impl Count {
     /// The counter in a word or an entry; `None` if it is not known.
@@ -91,14 +101,14 @@ impl Count {
     }
 }
 
-/// What a search or a move is for.
+/// What a search, a restart order or a move is for.
 #[derive(Clone, Copy, Debug, PartialEq, Eq, Hash)]
 pub enum Purpose {
-    /// Advance the line.
+    /// The line's checkpoints become the oldest: older ones are dropped, newer ones are kept, and nobody restarts.
     Advance,
-    /// Restart only, from the oldest checkpoints.
+    /// No search: everybody goes back to checkpoint 1, and newer ones are dropped.
     Restart,
-    /// Advance the line and restart from it.
+    /// Both: only the line's checkpoints are kept, and everybody restarts from them.
     AdvanceAndRestart,
 }
 

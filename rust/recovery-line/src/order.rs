@@ -6,22 +6,24 @@ use crate::refusal::Refusal;
 use crate::sys::{
     RECOVERY_LINE_ORDER_AFTER_AT as AFTER, RECOVERY_LINE_ORDER_BEFORE_AT as BEFORE, RECOVERY_LINE_ORDER_WORDS,
 };
+use std::fmt;
 
 /// What one process does in a restart order.
 #[derive(Clone, Copy, Debug, PartialEq, Eq, Hash)]
 pub struct Restart {
     /// The process.
     pub process: Process,
-    /// The checkpoint that it restarts from, numbered as before the move.
+    /// The checkpoint that it restarts from, numbered as before the move. With [`Purpose::Advance`](crate::Purpose::Advance)
+    /// the line's checkpoint, which becomes the oldest: nobody restarts.
     pub from: Checkpoint,
-    /// How many checkpoints before it go.
+    /// How many checkpoints older than it are dropped.
     pub before: u64,
-    /// How many checkpoints after it go.
+    /// How many checkpoints newer than it are dropped.
     pub after: u64,
 }
 
-/// A restart order: for each process the checkpoint restarted from, and how many go before and after it.
-#[derive(Clone, Copy, Debug, PartialEq, Eq, Hash)]
+/// A restart order: for each process the checkpoint restarted from, and how many older and newer ones are dropped.
+#[derive(Clone, Copy, PartialEq, Eq, Hash)]
 #[must_use = "an order that nobody follows restarts no process"]
 pub struct Order([u64; RECOVERY_LINE_ORDER_WORDS]);
 
@@ -48,7 +50,7 @@ impl Order {
         ByProcess::of(|process| self.of(process))
     }
 
-    /// Sixteen checkpoints restarted from, sixteen numbers of those that go before, sixteen of those after.
+    /// Sixteen checkpoints restarted from, sixteen numbers of older ones that are dropped, sixteen of newer ones.
     #[must_use]
     pub fn words(&self) -> &[u64; RECOVERY_LINE_ORDER_WORDS] {
         &self.0
@@ -57,6 +59,14 @@ impl Order {
     /// The order of [`RECOVERY_LINE_ORDER_WORDS`] words; any other number of them is refused by [`Refusal::WRONG_LENGTH`].
     pub fn from_words(words: &[u64]) -> Result<Order, Refusal> {
         words.try_into().map(Order).map_err(|_| Refusal::WRONG_LENGTH)
+    }
+}
+
+impl fmt::Debug for Order {
+    /// As its restarts.
+    fn fmt(&self, f: &mut fmt::Formatter<'_>) -> fmt::Result {
+        f.write_str("Order ")?;
+        f.debug_list().entries(self).finish()
     }
 }
 

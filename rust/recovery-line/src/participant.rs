@@ -1,5 +1,6 @@
 //! The participant's machine.
 
+use crate::head::Head;
 use crate::messages::Messages;
 use crate::names::{Checkpoint, Count, Process, Purpose};
 use crate::raw;
@@ -25,7 +26,8 @@ pub enum Stage {
     Ended,
 }
 
-/// A worker's machine in a search that another process begins; [`Tables::participant`] makes it.
+/// A worker's machine in a search that another process begins; [`Tables::invited`] makes it when the invitation comes,
+/// [`Tables::participant`] before. How it is used shows [Between machines](crate#between-machines).
 #[derive(Clone, Debug, PartialEq, Eq)]
 #[must_use = "a search waits for every machine"]
 pub struct Participant([u64; RECOVERY_LINE_PARTICIPANT_WORDS]);
@@ -37,6 +39,8 @@ impl Participant {
 
     /// Receives a message of the initiator and takes the step that it asks for; what it answers with is to be delivered to
     /// the initiator.
+    ///
+    /// Refused by: the tables' questions, 10, 13, 14, 15, 16.
     pub fn receive(&mut self, tables: &Tables, message: &[u8]) -> Result<Messages, Refusal> {
         Messages::written(|out, lengths| {
             raw::participant_receive(
@@ -85,7 +89,7 @@ impl Participant {
         self.stage() == Stage::Ended
     }
 
-    /// The checkpoint that it stands on.
+    /// The checkpoint that it stands on: once all have ended that of the line, with [`Purpose::Restart`] checkpoint 1.
     #[must_use]
     pub fn candidate(&self) -> Checkpoint {
         Checkpoint::new(self.0[CANDIDATE])
@@ -109,7 +113,7 @@ impl Participant {
         partner.place_beside(self.process(), self.0[N])
     }
 
-    /// The state as words, to be stored.
+    /// The state as words, to be stored, and with them the messages of its last step until they are sent.
     #[must_use]
     pub fn words(&self) -> &[u64; RECOVERY_LINE_PARTICIPANT_WORDS] {
         &self.0
@@ -126,5 +130,19 @@ impl Participant {
             return Err(Refusal::MISFIT);
         }
         Ok(Participant(words))
+    }
+}
+
+impl Tables {
+    /// Makes the machine of process `me` from the invitation that has come to it, and receives that: the machine, and its
+    /// report, which is to be delivered to the initiator.
+    ///
+    /// Refused by: the tables' questions, 14 where the bytes have no [`Head`], 10, 14, 15.
+    pub fn invited(&self, me: Process, invitation: &[u8]) -> Result<(Participant, Messages), Refusal> {
+        self.check()?;
+        let head = Head::of(invitation).ok_or(Refusal::NOT_FORMED)?;
+        let mut machine = self.participant(me, head.sender, head.purpose)?;
+        let report = machine.receive(self, invitation)?;
+        Ok((machine, report))
     }
 }

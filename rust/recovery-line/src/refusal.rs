@@ -6,6 +6,8 @@ use std::fmt;
 use std::num::NonZeroU32;
 
 /// The first question that a call fails; the call has then changed nothing that was lent to it.
+///
+/// The questions are numbered as in the repository's README, section "Questions"; [`Refusal::sentence`] has them too.
 #[derive(Clone, Copy, PartialEq, Eq, PartialOrd, Ord, Hash)]
 pub struct Refusal(NonZeroU32);
 
@@ -20,6 +22,8 @@ impl Refusal {
     pub(crate) const NO_PROCESS: Refusal = Refusal::numbered(10);
     /// The refusal of a state that does not fit.
     pub(crate) const MISFIT: Refusal = Refusal::numbered(13);
+    /// The refusal of a message that is not formed.
+    pub(crate) const NOT_FORMED: Refusal = Refusal::numbered(14);
 
     const fn numbered(number: u32) -> Refusal {
         match NonZeroU32::new(number) {
@@ -42,7 +46,7 @@ impl Refusal {
         self.0.get()
     }
 
-    /// The question as the specification puts it; for a wrong length, what is wrong.
+    /// The question in words, as README has it; for a wrong length, what is wrong.
     #[must_use]
     pub const fn sentence(self) -> &'static str {
         match self.question() {

@@ -26,7 +26,10 @@ pub struct Session {
 }
 
 impl Session {
-    /// Starts a session: the initiator has begun, and its invitations wait.
+    /// Starts a session: the initiator has begun, and its invitations wait; the whole book is needed
+    /// ([Between machines](crate#between-machines)).
+    ///
+    /// Refused by: the tables' questions, 10.
     pub fn start(tables: &Tables, initiator: Process, purpose: Purpose) -> Result<Session, Refusal> {
         let mut session = Session {
             words: Box::new([0; RECOVERY_LINE_SESSION_WORDS]),
@@ -45,6 +48,8 @@ impl Session {
     }
 
     /// Delivers the message that waits on a participant's strand; the replies wait then.
+    ///
+    /// Refused by: the tables' questions, 10, 11, 13, 17, 18.
     pub fn turn(&mut self, tables: &Tables, participant: Process) -> Result<(), Refusal> {
         raw::session_turn(
             &mut self.words[..],

@@ -7,7 +7,7 @@ use crate::sys::RECOVERY_LINE_SET_WORDS;
 use std::fmt;
 
 /// One checkpoint for each process, none for absent ones.
-#[derive(Clone, Copy, Debug, PartialEq, Eq, Hash)]
+#[derive(Clone, Copy, PartialEq, Eq, Hash)]
 #[must_use = "a set only says something when it is looked at"]
 pub struct Set([u64; RECOVERY_LINE_SET_WORDS]);
 
@@ -77,6 +77,14 @@ impl TryFrom<&[Checkpoint]> for Set {
     }
 }
 
+impl fmt::Debug for Set {
+    /// As the processes that have a checkpoint, each with it.
+    fn fmt(&self, f: &mut fmt::Formatter<'_>) -> fmt::Result {
+        f.write_str("Set ")?;
+        f.debug_map().entries(self).finish()
+    }
+}
+
 impl fmt::Display for Set {
     /// The checkpoint numbers of the processes that have one, with spaces between.
     fn fmt(&self, f: &mut fmt::Formatter<'_>) -> fmt::Result {
@@ -102,9 +110,10 @@ pub struct Line {
 #[derive(Clone, Copy, Debug, PartialEq, Eq, Hash)]
 #[must_use = "where the search ended is what the call was for"]
 pub struct Search {
-    /// The set on which everybody ended: the line with purpose 1 or 3, checkpoint 1 everywhere with purpose 2.
+    /// The set on which everybody ended: the line, or with [`Purpose::Restart`](crate::Purpose::Restart) checkpoint 1
+    /// everywhere.
     pub set: Set,
-    /// How many checkpoints are newer than it: T with purpose 1 or 3, with purpose 2 those newer than checkpoint 1.
+    /// How many checkpoints are newer than those of the set.
     pub newer: u64,
     /// How many waits of the initiator it took.
     pub rounds: u64,

@@ -33,9 +33,9 @@ pub const RECOVERY_LINE_PAIR_WORDS: usize = 2;
 /// The words that say how long the messages of one step are.
 pub const RECOVERY_LINE_LENGTHS_WORDS: usize = RECOVERY_LINE_PROCESSES;
 
-/// Where a restart order says how many go before, after the checkpoints restarted from.
+/// Where a restart order says how many older ones are dropped, after the checkpoints restarted from.
 pub const RECOVERY_LINE_ORDER_BEFORE_AT: usize = RECOVERY_LINE_SET_WORDS;
-/// Where it says how many go after.
+/// Where it says how many newer ones are dropped.
 pub const RECOVERY_LINE_ORDER_AFTER_AT: usize = RECOVERY_LINE_ORDER_BEFORE_AT + RECOVERY_LINE_PROCESSES;
 /// The words of a restart order.
 pub const RECOVERY_LINE_ORDER_WORDS: usize = RECOVERY_LINE_ORDER_AFTER_AT + RECOVERY_LINE_PROCESSES;

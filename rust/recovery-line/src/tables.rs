@@ -10,10 +10,9 @@ use crate::raw;
 use crate::refusal::Refusal;
 use crate::set::{Line, Search, Set};
 use crate::sys::{
-    Counter, RECOVERY_LINE_BOOK_BYTES, RECOVERY_LINE_INITIATOR_WORDS, RECOVERY_LINE_N_AT as N,
-    RECOVERY_LINE_ORDER_WORDS, RECOVERY_LINE_PAIR_WORDS, RECOVERY_LINE_PARTICIPANT_WORDS, RECOVERY_LINE_PROCESSES,
-    RECOVERY_LINE_SET_WORDS, RECOVERY_LINE_SHAPE_COUNTS_AT as COUNTS, RECOVERY_LINE_SHAPE_WORDS,
-    RECOVERY_LINE_TABLE_ENTRIES,
+    Counter, RECOVERY_LINE_BOOK_BYTES, RECOVERY_LINE_INITIATOR_WORDS, RECOVERY_LINE_ORDER_WORDS,
+    RECOVERY_LINE_PAIR_WORDS, RECOVERY_LINE_PARTICIPANT_WORDS, RECOVERY_LINE_PROCESSES, RECOVERY_LINE_SET_WORDS,
+    RECOVERY_LINE_SHAPE_WORDS, RECOVERY_LINE_TABLE_ENTRIES,
 };
 use std::fmt;
 
@@ -25,8 +24,8 @@ pub type Table = Box<[Counter; RECOVERY_LINE_TABLE_ENTRIES]>;
 
 /// A checkpoint book in memory: which checkpoints there are, and what each had sent and received.
 ///
-/// Every method puts the questions of tables again, so that tables from elsewhere ([`Tables::from_parts`]) are refused where
-/// they are wrong, and tables that were read from a book never are.
+/// Every method that can refuse puts the questions of tables first, those of [`Tables::check`]: so tables from elsewhere
+/// ([`Tables::from_parts`]) are refused where they are wrong, and tables that were read from a book never are.
 #[derive(Clone, PartialEq, Eq)]
 #[must_use = "tables only say something when they are looked at"]
 pub struct Tables {
@@ -36,7 +35,9 @@ pub struct Tables {
 }
 
 impl Tables {
-    /// Reads a checkpoint book, or refuses it by the first of questions 1 to 9 that it fails.
+    /// Reads a checkpoint book.
+    ///
+    /// Refused by: 1, then along the book 3 to 9.
     pub fn read(bytes: &[u8]) -> Result<Tables, Refusal> {
         let mut tables = Tables::of_zeros();
         tables.read_over(bytes)?;
@@ -44,14 +45,18 @@ impl Tables {
     }
 
     /// Reads a checkpoint book in the place of this one, which stays if the new one is refused.
+    ///
+    /// Refused by: the questions of [`Tables::read`].
     pub fn read_over(&mut self, bytes: &[u8]) -> Result<(), Refusal> {
         raw::read(bytes, &mut self.shape, &mut self.sent[..], &mut self.received[..])
     }
 
-    /// Reads a journal, or refuses it by the first question that it fails: 1 to 4, then event by event 19, 10, 20 and 5.
+    /// Reads a journal; [`Journal`](crate::Journal) writes one.
     ///
     /// A journal is n, then the events in the order in which they happened: kind (1 sent, 2 received, 3 checkpoint), process,
     /// and for 1 and 2 the partner. Checkpoint 1 of every process is there from the start.
+    ///
+    /// Refused by: 1, of n 3 and 4, then event by event 19, 10, 20, 5.
     ///
     /// ```
     /// use recovery_line::{Checkpoint, Count, Process, Tables};
@@ -72,6 +77,8 @@ impl Tables {
     }
 
     /// Reads a journal in the place of this book, which stays if the journal is refused.
+    ///
+    /// Refused by: the questions of [`Tables::read_journal`].
     pub fn read_journal_over(&mut self, bytes: &[u8]) -> Result<(), Refusal> {
         raw::read_journal(bytes, &mut self.shape, &mut self.sent[..], &mut self.received[..])
     }
@@ -101,12 +108,16 @@ impl Tables {
         (self.shape, self.sent, self.received)
     }
 
-    /// Puts the questions of tables: 2, 4, 5, 6 to 8 and 9.
+    /// Puts the questions of tables, and changes nothing.
+    ///
+    /// Refused by: 4, all of 5, then 6 to 8 in book order, then 9. These are the tables' questions.
     pub fn check(&self) -> Result<(), Refusal> {
         raw::check(&self.shape, &self.sent[..], &self.received[..])
     }
 
-    /// Writes the book, the same bytes that it was read from.
+    /// Writes the book; of tables that were read from one, the same bytes.
+    ///
+    /// Refused by: the tables' questions.
     pub fn write(&self) -> Result<Vec<u8>, Refusal> {
         let mut bytes = vec![0; RECOVERY_LINE_BOOK_BYTES];
         let length = self.write_to(&mut bytes)?;
@@ -114,7 +125,9 @@ impl Tables {
         Ok(bytes)
     }
 
-    /// Writes the book to the start of a buffer, whose other bytes stay, and gives its length; question 17 asks the room.
+    /// Writes the book to the start of a buffer, whose other bytes stay, and gives its length.
+    ///
+    /// Refused by: the tables' questions, 17 (the room).
     pub fn write_to(&self, out: &mut [u8]) -> Result<usize, Refusal> {
         let mut length = 0;
         raw::write(&self.shape, &self.sent[..], &self.received[..], out, &mut length)?;
@@ -122,7 +135,22 @@ impl Tables {
     }
 
     /// Tests a set: `None` if it is consistent, else the first pair (j, p) at fault, of the lowest j and for it the lowest p: j's
-    /// checkpoint received more from p than p's had sent to j.
+    /// checkpoint received more from p than p's had sent to j; the whole book is needed
+    /// ([Between machines](crate#between-machines)).
+    ///
+    /// Refused by: the tables' questions, 12.
+    ///
+    /// ```
+    /// use recovery_line::{Process, Tables};
+    ///
+    /// # fn main() -> Result<(), recovery_line::Refusal> {
+    /// // Process 1's newest checkpoint has received a message from process 2, which that has not sent.
+    /// let tables = Tables::read(&[2, 2, 0, 0, 0, 1, 1, 0, 0])?;
+    /// let (one, two) = (Process::new(1), Process::new(2));
+    /// assert_eq!(tables.test_set(&tables.newest())?, Some((one, two)));
+    /// # Ok(())
+    /// # }
+    /// ```
     pub fn test_set(&self, set: &Set) -> Result<Option<(Process, Process)>, Refusal> {
         let mut pair = [0; RECOVERY_LINE_PAIR_WORDS];
         raw::test_set(&self.shape, &self.sent[..], &self.received[..], set.words(), &mut pair)?;
@@ -131,6 +159,8 @@ impl Tables {
 
     /// Tests one checkpoint of a process against what each other process is known to have sent to it, `None` for "not known",
     /// which permits everything: the lowest one from which it received more, `None` exactly if there is none.
+    ///
+    /// Refused by: the tables' questions, 10, 12.
     ///
     /// ```
     /// use recovery_line::{Checkpoint, Count, Process, Tables};
@@ -173,7 +203,10 @@ impl Tables {
         Ok((partner != 0).then_some(Process::new(partner)))
     }
 
-    /// Finds the line: the consistent set that is nowhere earlier than any other.
+    /// Finds the line: the consistent set that is nowhere earlier than any other; the whole book is needed
+    /// ([Between machines](crate#between-machines)).
+    ///
+    /// Refused by: the tables' questions.
     pub fn find_line(&self) -> Result<Line, Refusal> {
         let mut line = [0; RECOVERY_LINE_SET_WORDS];
         let mut passed = 0;
@@ -184,7 +217,10 @@ impl Tables {
         })
     }
 
-    /// Runs a search by messages from its start to its end, lowest waiting strand first.
+    /// Runs a search by messages from its start to its end, lowest waiting strand first; the whole book is needed
+    /// ([Between machines](crate#between-machines)).
+    ///
+    /// Refused by: the tables' questions, 10.
     pub fn search(&self, initiator: Process, purpose: Purpose) -> Result<Search, Refusal> {
         let mut set = [0; RECOVERY_LINE_SET_WORDS];
         let (mut newer, mut rounds, mut messages) = (0, 0, 0);
@@ -207,7 +243,10 @@ impl Tables {
         })
     }
 
-    /// Moves the line in these tables, and gives the restart order, whose checkpoints are numbered as before the move.
+    /// Moves the line in these tables, and gives the restart order, whose checkpoints are numbered as before the move;
+    /// the whole book is needed ([Between machines](crate#between-machines)).
+    ///
+    /// Refused by: the tables' questions.
     pub fn move_line(&mut self, purpose: Purpose) -> Result<Order, Refusal> {
         let mut order = [0; RECOVERY_LINE_ORDER_WORDS];
         raw::move_line(
@@ -220,7 +259,10 @@ impl Tables {
         Ok(Order::from_array(order))
     }
 
-    /// Gives the restart order that [`Tables::move_line`] would give, and moves nothing.
+    /// Gives the restart order that [`Tables::move_line`] would give, and moves nothing;
+    /// the whole book is needed ([Between machines](crate#between-machines)).
+    ///
+    /// Refused by: the tables' questions.
     pub fn restart_order(&self, purpose: Purpose) -> Result<Order, Refusal> {
         let mut order = [0; RECOVERY_LINE_ORDER_WORDS];
         raw::restart_order(
@@ -233,9 +275,12 @@ impl Tables {
         Ok(Order::from_array(order))
     }
 
-    /// Makes the machine of process `me`, which waits for the initiator's invitation.
+    /// Makes the machine of process `me`, which waits for the initiator's invitation. Who learns from the invitation who begins,
+    /// and for what, calls [`Tables::invited`].
     ///
-    /// Of the tables only the rows of process `me` matter beyond the check.
+    /// Of the tables only the rows of process `me` matter beyond the check: [`BookBuilder::zeros_elsewhere`] makes such.
+    ///
+    /// Refused by: the tables' questions, 10.
     pub fn participant(&self, me: Process, initiator: Process, purpose: Purpose) -> Result<Participant, Refusal> {
         let mut state = [0; RECOVERY_LINE_PARTICIPANT_WORDS];
         raw::participant_first(
@@ -252,7 +297,9 @@ impl Tables {
 
     /// Begins a search, or with [`Purpose::Restart`] a bare restart: the machine of process `me`, and the invitations.
     ///
-    /// Of the tables only the rows of process `me` matter beyond the check.
+    /// Of the tables only the rows of process `me` matter beyond the check: [`BookBuilder::zeros_elsewhere`] makes such.
+    ///
+    /// Refused by: the tables' questions, 10.
     pub fn initiator(&self, me: Process, purpose: Purpose) -> Result<(Initiator, Messages), Refusal> {
         let mut state = Box::new([0; RECOVERY_LINE_INITIATOR_WORDS]);
         let messages = Messages::written(|out, lengths| {
@@ -268,34 +315,6 @@ impl Tables {
             )
         })?;
         Ok((Initiator::from_boxed(state), messages))
-    }
-
-    /// The number of processes, n.
-    #[must_use]
-    pub fn processes(&self) -> u64 {
-        self.shape[N]
-    }
-
-    /// How many checkpoints a process has; 0 for an absent one.
-    #[must_use]
-    pub fn checkpoints(&self, process: Process) -> u64 {
-        let place = process.place_among(self.processes());
-        place.map_or(0, |place| self.shape[COUNTS + place])
-    }
-
-    /// How many messages a process had sent to a partner at a checkpoint; `None` if there is no such process, checkpoint or
-    /// partner, which is another process: nobody sends to himself.
-    #[must_use]
-    pub fn sent_to(&self, process: Process, checkpoint: Checkpoint, partner: Process) -> Option<Count> {
-        let entry = self.entry(process, checkpoint, partner)?;
-        Some(Count::new(u64::from(*self.sent.get(entry)?)))
-    }
-
-    /// How many messages a process had received from a partner at a checkpoint; `None` where [`Tables::sent_to`] has none.
-    #[must_use]
-    pub fn received_from(&self, process: Process, checkpoint: Checkpoint, partner: Process) -> Option<Count> {
-        let entry = self.entry(process, checkpoint, partner)?;
-        Some(Count::new(u64::from(*self.received.get(entry)?)))
     }
 
     /// The shape: n, then sixteen counts of checkpoints.
@@ -314,20 +333,6 @@ impl Tables {
     #[must_use]
     pub fn received(&self) -> &[Counter; RECOVERY_LINE_TABLE_ENTRIES] {
         &self.received
-    }
-
-    fn entry(&self, process: Process, checkpoint: Checkpoint, partner: Process) -> Option<usize> {
-        let n = self.processes();
-        let (place, column) = (process.place_among(n)?, partner.place_beside(process, n)?);
-        let number = checkpoint.number();
-        if number == 0 || number > self.shape[COUNTS + place] {
-            return None;
-        }
-        let earlier = self.shape[COUNTS..COUNTS + place]
-            .iter()
-            .fold(0u64, |sum, count| sum.saturating_add(*count));
-        let row = usize::try_from(earlier.checked_add(number - 1)?).ok()?;
-        row.checked_mul(RECOVERY_LINE_PROCESSES)?.checked_add(column)
     }
 }
 

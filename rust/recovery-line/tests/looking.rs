@@ -3,6 +3,7 @@
 use recovery_line::sys::{
     RECOVERY_LINE_INITIATOR_AWAITED_AT as AWAITED, RECOVERY_LINE_PARTICIPANT_WORDS,
     RECOVERY_LINE_SESSION_LENGTHS_AT as WAITING, RECOVERY_LINE_SESSION_PARTICIPANTS_AT as PARTICIPANTS,
+    RECOVERY_LINE_SHAPE_COUNTS_AT,
 };
 use recovery_line::{Checkpoint, Count, Initiator, Process, Purpose, Refusal, Session, Set, Tables};
 
@@ -100,6 +101,17 @@ fn tables_have_no_counter_of_absent_processes() {
     assert_eq!(tables.sent_to(TWO, newest, TWO), None);
     assert_eq!(tables.received_from(TWO, newest, TWO), None);
     assert_eq!(tables.sent_to(TWO, newest, THREE), Some(Count::new(0)));
+}
+
+/// Also where the shape says something of processes that there are not.
+#[test]
+fn the_newest_checkpoints_are_a_set() {
+    let book = Tables::read(&[2, 3, 0, 0, 0, 0, 0, 0, 1, 0, 0]).unwrap();
+    assert_eq!(book.newest(), Set::new(&[3, 1].map(Checkpoint::new)).unwrap());
+    let (mut shape, sent, received) = book.into_parts();
+    shape[RECOVERY_LINE_SHAPE_COUNTS_AT + 2] = 9;
+    let newest = Tables::from_parts(shape, sent, received).newest();
+    assert_eq!(newest.checkpoint(THREE), None);
 }
 
 #[test]

@@ -100,6 +100,21 @@ fn sets_and_orders_are_brought_back() {
     );
 }
 
+/// Of absent processes nothing is shown, of one that is left out in the middle neither.
+#[test]
+fn sets_and_orders_show_what_they_have() {
+    let set = Set::new(&[2, 0, 7].map(recovery_line::Checkpoint::new)).unwrap();
+    assert_eq!(
+        format!("{set:?}"),
+        "Set {Process(1): Checkpoint(2), Process(3): Checkpoint(7)}"
+    );
+    let order = Tables::read(&[1, 3]).unwrap().restart_order(Purpose::AdvanceAndRestart);
+    assert_eq!(
+        format!("{:?}", order.unwrap()),
+        "Order [Restart { process: Process(1), from: Checkpoint(3), before: 2, after: 0 }]"
+    );
+}
+
 #[test]
 fn machines_are_brought_back() {
     let (one, two) = (Process::new(1), Process::new(2));
