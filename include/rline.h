@@ -9,10 +9,13 @@
  * One struct holds the tables, so that sent and received counters cannot change places, and a process is no checkpoint. Both
  * are numbered from 1; 0 is none. In C and C++ `const rline_process first = {1};` makes one.
  *
- * Every function that returns a uint32_t answers, does and refuses as the function of recovery_line.h that it calls, and but
- * for rline_own_tables a refused call changes nothing here too. What recovery_line.h says of threads and of overlaps holds
- * here, and RECOVERY_LINE_STACK_BYTES suffice. A look (a function that returns anything else) asks nothing: of a process or a
- * checkpoint that there is not it gives 0.
+ * The parts that it includes: rline_worker.h, what a worker counts, and tables made from that; rline_machines.h, machines,
+ * messages and sessions.
+ *
+ * Every function that returns a uint32_t answers 0 or the number of a question, and a refused call changes nothing. Most do just
+ * what the function of recovery_line.h does that they call. What that header says of threads and of overlaps holds here, and
+ * RECOVERY_LINE_STACK_BYTES suffice for what is called. A look (a function that returns anything else) asks nothing: of a
+ * process or a checkpoint that there is not it gives 0.
  *
  * Tables, machines, sessions, messages, orders and buffers are initialised before they are lent: `static`, or `= {0}` in C and
  * `{}` in C++. Small results (a line, a fault, a partner, a search's result, a length) need not be.

@@ -13,7 +13,7 @@ typedef struct rline_counts {
     recovery_line_counter sent[RECOVERY_LINE_PROCESSES], received[RECOVERY_LINE_PROCESSES];
 } rline_counts;
 
-/* The questions by which rline_own_tables refuses before the check. */
+/* The questions that are put before the check. */
 #define RLINE_WRONG_N 4
 #define RLINE_WRONG_COUNT 5
 #define RLINE_WRONG_PROCESS 10
@@ -65,53 +65,73 @@ RECOVERY_LINE_NODISCARD static inline rline_counts rline_counts_at(const rline_t
     return counts;
 }
 
-/* Puts a process's checkpoints into tables whose shape has them. */
-static inline void rline_put_own(rline_tables *tables, rline_process me, const rline_counts *checkpoints, size_t count) {
-    for (size_t i = 0; i < count; i++) {
-        size_t at = rline_row(tables, me, rline_checkpoint_number(i + 1)) * RECOVERY_LINE_PROCESSES;
-        memcpy(tables->sent + at, checkpoints[i].sent, sizeof checkpoints[i].sent);
-        memcpy(tables->received + at, checkpoints[i].received, sizeof checkpoints[i].received);
-    }
-}
-
-/* Puts the shape in which one process has that many checkpoints and each other one has one, if there is room for them; the
- * check asks the rest. */
-RECOVERY_LINE_NODISCARD static inline uint32_t rline_put_own_shape(rline_tables *tables, uint64_t n, rline_process me,
-                                                                   size_t count) {
+/* Puts the number of checkpoints of each of n processes, if it can be one; the check asks for all of them together. */
+RECOVERY_LINE_NODISCARD static inline uint32_t rline_put_shape(rline_tables *tables, uint64_t n, const size_t *counts) {
     if (n < 1 || n > RECOVERY_LINE_PROCESSES) {
         return RLINE_WRONG_N;
     }
-    if (me.number < 1 || me.number > n) {
-        return RLINE_WRONG_PROCESS;
-    }
-    if (count > RECOVERY_LINE_CHECKPOINTS - (n - 1)) {
-        return RLINE_WRONG_COUNT;
-    }
     tables->shape[RECOVERY_LINE_N_AT] = n;
-    for (uint64_t p = 1; p <= n; p++) {
-        tables->shape[RECOVERY_LINE_SHAPE_COUNTS_AT + p - 1] = p == me.number ? count : 1;
+    for (uint64_t p = 0; p < n; p++) {
+        if (counts[p] > RECOVERY_LINE_CHECKPOINTS) {
+            return RLINE_WRONG_COUNT;
+        }
+        tables->shape[RECOVERY_LINE_SHAPE_COUNTS_AT + p] = counts[p];
     }
     return RECOVERY_LINE_ACCEPTED;
 }
 
-/* Makes the tables of worker `me`, one of n, that knows its own checkpoints alone: `count` of them, oldest first (which is of
- * zeros), and one of zeros for each other process. The worker's machine goes by them as by the whole book.
- * rline_find, rline_test_set, rline_restart_order, rline_move, rline_search and rline_session_start do not: for them these are
- * a book in which the others have sent nothing, and so they go back too far. They need the whole book.
- * Where it is refused, the tables are emptied, unlike elsewhere: every call then refuses them by 4.
- * Questions: 4, 10, 5 (of all checkpoints together), then those of tables. */
-RECOVERY_LINE_NODISCARD static inline uint32_t rline_own_tables(rline_tables *tables, uint64_t n, rline_process me,
-                                                                const rline_counts *checkpoints, size_t count) {
-    memset(tables, 0, sizeof *tables);
-    uint32_t answer = rline_put_own_shape(tables, n, me, count);
-    if (answer == RECOVERY_LINE_ACCEPTED) {
-        rline_put_own(tables, me, checkpoints, count);
-        answer = rline_check(tables);
+/* Puts a process's checkpoints, as many as the shape says. */
+static inline void rline_put_rows(rline_tables *tables, rline_process process, const rline_counts *checkpoints) {
+    for (uint64_t r = 1; r <= rline_checkpoints(tables, process); r++) {
+        size_t row = rline_row(tables, process, rline_checkpoint_number(r));
+        if (row < RECOVERY_LINE_CHECKPOINTS) {
+            memcpy(tables->sent + row * RECOVERY_LINE_PROCESSES, checkpoints[r - 1].sent, sizeof checkpoints->sent);
+            memcpy(tables->received + row * RECOVERY_LINE_PROCESSES, checkpoints[r - 1].received,
+                   sizeof checkpoints->received);
+        }
     }
-    if (answer != RECOVERY_LINE_ACCEPTED) {
-        memset(tables, 0, sizeof *tables);
+}
+
+/* Makes the tables of the whole book of n processes: process p has the counts[p - 1] checkpoints at checkpoints[p - 1], oldest
+ * first (which is of zeros).
+ * Questions: 4, 5 (of all checkpoints together), then those of tables. Stack: that of the check, and an rline_tables. */
+RECOVERY_LINE_NODISCARD static inline uint32_t rline_whole_tables(rline_tables *tables, uint64_t n,
+                                                                  const rline_counts *const *checkpoints,
+                                                                  const size_t *counts) {
+    rline_tables made;
+    memset(&made, 0, sizeof made);
+    uint32_t answer = rline_put_shape(&made, n, counts);
+    for (uint64_t p = 1; answer == RECOVERY_LINE_ACCEPTED && p <= n; p++) {
+        rline_put_rows(&made, rline_process_number(p), checkpoints[p - 1]);
+    }
+    if (answer == RECOVERY_LINE_ACCEPTED) {
+        answer = rline_check(&made);
+    }
+    if (answer == RECOVERY_LINE_ACCEPTED) {
+        memcpy(tables, &made, sizeof made);
     }
     return answer;
+}
+
+/* Makes the tables of worker `me`, one of n, that knows its own checkpoints alone: `count` of them, oldest first (which is of
+ * zeros); each other process gets one of zeros. The worker's machine goes by them as by the whole book.
+ * rline_find, rline_test_set, rline_restart_order, rline_move, rline_search and rline_session_start do not: for them these are
+ * a book in which the others have sent nothing, and so they go back too far. They need the whole book.
+ * Questions: 4, 10, 5 (of all checkpoints together), then those of tables. Stack: as for rline_whole_tables. */
+RECOVERY_LINE_NODISCARD static inline uint32_t rline_own_tables(rline_tables *tables, uint64_t n, rline_process me,
+                                                                const rline_counts *checkpoints, size_t count) {
+    const rline_counts *all[RECOVERY_LINE_PROCESSES];
+    size_t counts[RECOVERY_LINE_PROCESSES];
+    rline_counts zeros;
+    memset(&zeros, 0, sizeof zeros);
+    if (n >= 1 && n <= RECOVERY_LINE_PROCESSES && (me.number < 1 || me.number > n)) {
+        return RLINE_WRONG_PROCESS;
+    }
+    for (uint64_t p = 1; p <= RECOVERY_LINE_PROCESSES; p++) {
+        all[p - 1] = p == me.number ? checkpoints : &zeros;
+        counts[p - 1] = p == me.number ? count : 1;
+    }
+    return rline_whole_tables(tables, n, all, counts);
 }
 
 #endif

@@ -278,6 +278,7 @@ int main(void) {
     shapes_are_no_places();
     searches_on_own_tables();
     wrong_own_tables();
+    whole_tables_are_made();
     heads_are_seen();
     absent_processes();
     no_tables();

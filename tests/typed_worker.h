@@ -243,13 +243,14 @@ static void searches_on_own_tables(void) {
     end_group("machines on own tables do what they do on the whole book");
 }
 
-/* Refused own tables are empty. */
+/* Refused, or not: then the tables pass the check. */
 static void refuse_own(uint64_t n, uint64_t me, size_t count, uint32_t expected, const char *what) {
-    static rline_tables tables, empty;
+    static rline_tables tables, unchanged;
     memset(&tables, PATTERN, sizeof tables);
+    memset(&unchanged, PATTERN, sizeof unchanged);
     expect(rline_own_tables(&tables, n, rline_process_number(me), own_counts, count) == expected, "own_tables", what);
-    expect((memcmp(&tables, &empty, sizeof tables) == 0) == (expected != 0), "own_tables", "empties what it refuses");
-    expect(rline_check(&tables) == (expected != 0 ? 4 : 0), "own_tables", "refused tables are refused by 4");
+    expect((memcmp(&tables, &unchanged, sizeof tables) == 0) == (expected != 0), "own_tables", "changes nothing if refused");
+    expect(expected != 0 || rline_check(&tables) == 0, "own_tables", "makes tables that pass the check");
 }
 
 /* Changes one counter, and changes it back. */
@@ -285,7 +286,62 @@ static void wrong_own_tables(void) {
     refuse_counter(&own_counts[2].received[2], 4, 8);
     refuse_counter(&own_counts[1].sent[1], 1, 9);
     refuse_counter(&own_counts[1].received[3], 1, 9);
-    end_group("own tables are refused by each question, and are empty then");
+    end_group("own tables are refused by each question, and nothing is changed");
+}
+
+/* Whole tables. */
+
+/* The tables of a book made again from its checkpoints, gathered from every process. */
+static void make_whole(rline_tables *made, const rline_tables *whole) {
+    static rline_counts gathered[PROCESSES][RECOVERY_LINE_CHECKPOINTS];
+    const rline_counts *checkpoints[PROCESSES];
+    size_t counts[PROCESSES];
+    for (uint64_t i = 0; i < PROCESSES * RECOVERY_LINE_CHECKPOINTS; i++) {
+        const rline_process process = {i / RECOVERY_LINE_CHECKPOINTS + 1};
+        const rline_checkpoint checkpoint = {i % RECOVERY_LINE_CHECKPOINTS + 1};
+        checkpoints[process.number - 1] = gathered[process.number - 1];
+        counts[process.number - 1] = (size_t)rline_checkpoints(whole, process);
+        gathered[process.number - 1][checkpoint.number - 1] = rline_counts_at(whole, process, checkpoint);
+    }
+    memset(made, PATTERN, sizeof *made);
+    expect(rline_whole_tables(made, rline_processes(whole), checkpoints, counts) == 0, "whole_tables", "accepts");
+}
+
+static void refuse_whole(uint64_t n, size_t first_count, size_t last_count, uint32_t expected, const char *what) {
+    static rline_tables tables, unchanged;
+    const rline_counts *checkpoints[PROCESSES];
+    size_t counts[PROCESSES];
+    for (int p = 0; p < PROCESSES; p++) {
+        checkpoints[p] = own_counts;
+        counts[p] = p == 0 ? first_count : p == PROCESSES - 1 ? last_count : 1;
+    }
+    memset(&tables, PATTERN, sizeof tables);
+    memset(&unchanged, PATTERN, sizeof unchanged);
+    expect(rline_whole_tables(&tables, n, checkpoints, counts) == expected, "whole_tables", what);
+    expect((memcmp(&tables, &unchanged, sizeof tables) == 0) == (expected != 0), "whole_tables", "changes nothing if refused");
+}
+
+static void whole_tables_are_made(void) {
+    static rline_tables whole, made;
+    const size_t most = RECOVERY_LINE_CHECKPOINTS - (PROCESSES - 1);
+    make_whole(&made, &typed.tables);
+    expect(memcmp(&made, &typed.tables, sizeof made) == 0, "whole_tables", "makes the tables of a book");
+    read_dominoes(&whole);
+    make_whole(&made, &whole);
+    expect(memcmp(&made, &whole, sizeof made) == 0, "whole_tables", "makes the tables of a longer book");
+    memset(own_counts, 0, sizeof own_counts);
+    refuse_whole(0, 0, 0, 4, "asks for n first");
+    refuse_whole(PROCESSES + 1, 1, 1, 4, "asks for n");
+    refuse_whole(PROCESSES, 0, 1, 5, "asks for each count");
+    refuse_whole(PROCESSES, 1, 0, 5, "asks for each count");
+    refuse_whole(PROCESSES, 1, most + 1, 5, "asks for all counts");
+    refuse_whole(PROCESSES, SIZE_MAX, 2, 5, "asks for all counts");
+    refuse_whole(PROCESSES, 1, most, 0, "accepts as many as there may be");
+    refuse_whole(PROCESSES, most, 1, 0, "accepts as many as there may be");
+    own_counts[0].received[1] = 1;
+    refuse_whole(1, 1, 1, 9, "puts the questions of tables");
+    refuse_whole(processes, 1, 1, 7, "puts the questions of tables");
+    end_group("whole tables are made from counts, or refused");
 }
 
 /* Looks at messages. */
