@@ -57,6 +57,8 @@
  *
  * Tables. `sent` and `received` have RECOVERY_LINE_TABLE_ENTRIES counters each: a row of sixteen for each checkpoint,
  * processes in order, oldest checkpoint first; place p - 1 of a row, counted from 0, is partner p. What is unused is zero.
+ * Messages are counted from the present line, which is of the oldest checkpoints: these have received nothing, and have sent
+ * what was on its way when the line became theirs.
  *
  * Books, journals and messages are bytes: numbers in groups of seven bits, lowest group first, the top bit of a byte set when
  * another group follows.
@@ -85,7 +87,7 @@ extern "C" {
 
 /* The version of this interface: it changes when a declaration, a layout or the meaning of a call does; a call that is added
  * changes none of them. */
-#define RECOVERY_LINE_VERSION 3
+#define RECOVERY_LINE_VERSION 4
 
 /* Bounds. */
 #define RECOVERY_LINE_PROCESSES 16
@@ -204,7 +206,7 @@ static inline const char *recovery_line_question(uint32_t question) {
     case 4: return "Is n from 1 to 16?";
     case 5: return "Is the count at least 1 and the sum so far at most 256?";
     case 6: return "Is the counter other than 4,294,967,295?";
-    case 7: return "Is it zero, in an oldest checkpoint?";
+    case 7: return "Of a received counter: is it zero, in an oldest checkpoint?";
     case 8: return "Is it no lower than the same counter one checkpoint before?";
     case 9: return "Does nothing follow, and in tables, is everything unused zero?";
     case 10: return "Is each process named from 1 to n (a participant: other than the initiator)?";
@@ -351,7 +353,9 @@ RECOVERY_LINE_NODISCARD uint32_t recovery_line_search(
     const recovery_line_counter *received, size_t received_len, uint64_t initiator, uint64_t purpose,
     uint64_t *set, size_t set_len, uint64_t *newer, uint64_t *rounds, uint64_t *messages);
 
-/* Moves the line in the tables, every entry of both, with their shape, and gives the restart order.
+/* Moves the line in the tables, every entry of both, with their shape, and gives the restart order. For every two processes a
+ * and b, what b's line checkpoint (with purpose 2 checkpoint 1, so nothing) had received from a is taken off both a's counters
+ * of what it sent to b and b's counters of what it received from a.
  * Questions: the tables', 11.
  * Stack: 13312 bytes. */
 RECOVERY_LINE_NODISCARD uint32_t recovery_line_move(

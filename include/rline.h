@@ -306,7 +306,9 @@ RECOVERY_LINE_NODISCARD static inline uint32_t rline_search(const rline_tables *
 
 /* Restarts. */
 
-/* Moves the line in the tables, which needs the whole book, not a worker's own tables, and gives the restart order. */
+/* Moves the line in the tables, which needs the whole book, not a worker's own tables, and gives the restart order. On the
+ * channel from a to b, what b's line checkpoint (with purpose 2 checkpoint 1, so nothing) had received is taken off at both
+ * ends: off what a has sent to b, and off what b has received from a. Who keeps counters beside the tables does the same. */
 RECOVERY_LINE_NODISCARD static inline uint32_t rline_move(rline_tables *tables, uint64_t purpose, rline_order *order) {
     return recovery_line_move(RLINE_TABLES(tables), purpose, RLINE_ARRAY(order->words));
 }

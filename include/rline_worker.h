@@ -7,8 +7,8 @@
 #ifndef RLINE_WORKER_H
 #define RLINE_WORKER_H
 
-/* What a process has sent to and received from each other one, counted from the present line; place p - 1 is partner p. A copy
- * of it is a checkpoint. Its own place and those of absent processes stay 0: tables in which they are not are refused by 9. */
+/* What a process has sent to and received from each other one, counted from the present line (rline_move says what a move
+ * takes off); place p - 1 is partner p. A copy of it is a checkpoint. Its own place and those of absent processes stay 0: tables in which they are not are refused by 9. */
 typedef struct rline_counts {
     recovery_line_counter sent[RECOVERY_LINE_PROCESSES], received[RECOVERY_LINE_PROCESSES];
 } rline_counts;
@@ -93,7 +93,7 @@ static inline void rline_put_rows(rline_tables *tables, rline_process process, c
 }
 
 /* Makes the tables of the whole book of n processes: process p has the counts[p - 1] checkpoints at checkpoints[p - 1], oldest
- * first (which is of zeros).
+ * first (which has received nothing).
  * Questions: 4, 5 (of all checkpoints together), then those of tables. Stack: that of the check, and an rline_tables. */
 RECOVERY_LINE_NODISCARD static inline uint32_t rline_whole_tables(rline_tables *tables, uint64_t n,
                                                                   const rline_counts *const *checkpoints,
@@ -113,8 +113,8 @@ RECOVERY_LINE_NODISCARD static inline uint32_t rline_whole_tables(rline_tables *
     return answer;
 }
 
-/* Makes the tables of worker `me`, one of n, that knows its own checkpoints alone: `count` of them, oldest first (which is of
- * zeros); each other process gets one of zeros. The worker's machine goes by them as by the whole book.
+/* Makes the tables of worker `me`, one of n, that knows its own checkpoints alone: `count` of them, oldest first (which has
+ * received nothing); each other process gets one of zeros. The worker's machine goes by them as by the whole book.
  * rline_find, rline_test_set, rline_restart_order, rline_move, rline_search and rline_session_start do not: for them these are
  * a book in which the others have sent nothing, and so they go back too far. They need the whole book.
  * Questions: 4, 10, 5 (of all checkpoints together), then those of tables. Stack: as for rline_whole_tables. */

@@ -280,8 +280,9 @@ static void wrong_own_tables(void) {
     refuse_own(processes, 2, 3, 0, "accepts");
     refuse_counter(&own_counts[2].sent[0], RECOVERY_LINE_NOT_KNOWN, 6);
     refuse_counter(&own_counts[2].received[2], RECOVERY_LINE_NOT_KNOWN, 6);
-    refuse_counter(&own_counts[0].sent[2], 1, 7);
     refuse_counter(&own_counts[0].received[0], 1, 7);
+    refuse_counter(&own_counts[0].sent[0], 5, 0);
+    refuse_counter(&own_counts[0].sent[0], 6, 8);
     refuse_counter(&own_counts[2].sent[0], 4, 8);
     refuse_counter(&own_counts[2].received[2], 4, 8);
     refuse_counter(&own_counts[1].sent[1], 1, 9);

@@ -15,10 +15,12 @@ countersQuestion mark zeros (b ∷ before) [] = 3
 countersQuestion mark zeros (b ∷ before) (v ∷ vs) =
     counterQuestion mark zeros b v then λ _. countersQuestion mark zeros before vs
 
--- "the oldest checkpoint holds zeros": which of its halves question 7 asks
+-- "the oldest checkpoint holds zeros", and document 02, E4: "An oldest checkpoint may thus have sent counters above zero, and
+-- question 7 applies to received counters only". Which half of a checkpoint question 7 asks: the sent one never,
 unfoldable pub sentZeros : Bool → Bool
-sentZeros oldest = oldest
+sentZeros oldest = false
 
+-- the received one in an oldest checkpoint
 unfoldable pub receivedZeros : Bool → Bool
 receivedZeros oldest = oldest
 

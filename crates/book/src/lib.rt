@@ -87,14 +87,15 @@ pub fn is_named(n: usize, process: usize) -> bool
     1 <= process && process <= n
 }
 
-// Must the sent counters of a checkpoint be zero (question 7)? Those of an oldest one must.
+// Must the sent counters of a checkpoint be zero (question 7)? Not those of an oldest one either: they count what was on its way
+// across the line.
 pub fn sent_zeros(oldest: bool) -> bool
     ensures { λ r. ⌜ r ≡ sentZeros oldest ⌝ }
 {
-    oldest
+    false
 }
 
-// Must its received counters be? The same.
+// Must its received counters be? Those of an oldest one must.
 pub fn received_zeros(oldest: bool) -> bool
     ensures { λ r. ⌜ r ≡ receivedZeros oldest ⌝ }
 {

@@ -1,2 +1,3 @@
 pub mod Starred
 pub mod Columns
+pub mod InFlight

@@ -38,7 +38,6 @@ shows-logged n es events short =
         omega (arith, counted-few (isSending (suc j) (suc p)) (suc j) es r),
         omega (arith, counted-few (isReceipt (suc j) (suc p)) (suc j) es r),
       );
-      oldest-sent = λ j p h m. counted-first (isSending (suc j) (suc p)) (suc j) es;
       oldest-received = λ j p h m. counted-first (isReceipt (suc j) (suc p)) (suc j) es;
       rising = λ j r p is m. (
         counted-rises (isSending (suc j) (suc p)) (suc j) es r (is .first),

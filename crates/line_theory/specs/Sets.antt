@@ -15,8 +15,7 @@ pub record View : Type 0 where
   pub S : ℕ → ℕ → ℕ → ℕ
   pub R : ℕ → ℕ → ℕ → ℕ
 
--- All that the theory of the line asks of a book. It does not ask that an oldest checkpoint has sent nothing, nor that
--- received counters rise.
+-- All that the theory of the line asks of a book. It does not ask that received counters rise.
 pub record IsBook (mark : ℕ) (v : View) : Type 0 where
   pub some : (j : ℕ) → j < v .n → 1 ≤ v .count j
   pub rising : (j r p : ℕ) → j < v .n → p < v .n → 1 ≤ r → r < v .count j → v .S j r p ≤ v .S j (suc r) p

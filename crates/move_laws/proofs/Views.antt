@@ -1,6 +1,6 @@
 -- The book as a plan leaves it: each kept counter and what was taken off it are the old counter, and it is a book again.
-use mathlib.Core.Path.{_≡_, refl}
-use Prim.Native.Nat.{ℕ, suc, _+_, _≤_, _<_}
+use mathlib.Core.Path.{_≡_, _∙_}
+use Prim.Native.Nat.{ℕ, zero, suc, _+_, _-_, _≤_, _<_}
 use native.Mathlib.Nat.{sub-add-cancel, sub-self}
 use native.Mathlib.Decide.{ℕ-discrete}
 use native.Mathlib.Omega.{arith}
@@ -8,27 +8,28 @@ use Rattle.book.specs.Bounds.{mark}
 use Rattle.lists.specs.Over.{sumTo}
 use Rattle.line_theory.specs.Sets.{View, IsBook}
 use Rattle.lists.proofs.Over.{sum-le}
-use Rattle.line_theory.proofs.Steps.{sent-rises}
 use Rattle.shown.specs.Statements.{IsCounter, ShowsBook, SameCounters}
 use Rattle.restart.specs.Plan.{Planned, applied}
 use Rattle.restart.proofs.Plans.{IsPlan}
 
-module _ (v : View) (shows : ShowsBook v) (book : IsBook mark v) where
-  -- received counters rise as those sent do: put in their place, they make a book too
-  abbrev receiving : View
-  receiving = record { n = v .n; count = v .count; S = v .R; R = λ j r p. 0 }
+module _ (v : View) (shows : ShowsBook v) where
+  -- counters rise from each checkpoint to each later one
+  rising-by : (j a p k : ℕ) → j < v .n → p < v .n → 1 ≤ a → a + k ≤ v .count j
+      → (v .S j a p ≤ v .S j (a + k) p) × (v .R j a p ≤ v .R j (a + k) p)
+  rising-by j a p zero h o some few = let e : a + 0 ≡ a = omega arith in rw e (omega arith, omega arith)
+  rising-by j a p (suc k) h o some few =
+      let e : a + suc k ≡ suc (a + k) = omega arith in
+      let so-far = rising-by j a p k h o some (omega arith) in
+      let next = shows .rising j (a + k) p (record { process = h; first = omega arith; last = omega arith; partner = o }) (omega arith) in
+      rw e (omega (arith, so-far .0, next .0), omega (arith, so-far .1, next .1))
 
-  receiving-is-book : IsBook mark receiving
-  receiving-is-book = record {
-    some = book .some;
-    rising = λ j r p h o a m. shows .rising j r p (record { process = h; first = a; last = omega arith; partner = o }) m .1;
-    below = λ j r p h o a m. shows .known j r p (record { process = h; first = a; last = m; partner = o }) .1;
-    received = λ j r p h o a m. omega arith;
-    oldest = λ j p h o. refl;
-    own = λ j r h a m. (book .own j r h a m .1, refl);
-  }
+  pub rises : (j a b p : ℕ) → j < v .n → p < v .n → 1 ≤ a → a ≤ b → b ≤ v .count j
+      → (v .S j a p ≤ v .S j b p) × (v .R j a p ≤ v .R j b p)
+  rises j a b p h o some later few =
+      let e : a + (b - a) ≡ b = omega arith in
+      rw e at (rising-by j a p (b - a) h o some (omega arith))
 
-  module _ (plan : Planned) (is : IsPlan v plan) where
+  module _ (book : IsBook mark v) (plan : Planned) (is : IsPlan v plan) where
     -- what is checkpoint r now was a checkpoint of the old book
     was-counter : (j r p : ℕ) → IsCounter (applied plan v) j r p → IsCounter v j (plan .before j + r) p
     unfolding applied
@@ -46,20 +47,28 @@ module _ (v : View) (shows : ShowsBook v) (book : IsBook mark v) where
           let w : IsCounter v j (plan .before j + r) p = was-counter j r p at in
           (w .process, w .partner, is .line .some j (w .process), omega (arith, is .before j (w .process), at .first), w .last)
 
-      sent-falls : applied plan v .S j r p + v .S j (plan .line j) p ≡ v .S j (plan .before j + r) p
-      unfolding applied
-      sent-falls =
+      -- what the receiver's line checkpoint had received, the sender's had sent; own columns are zero
+      off-sent : plan .off j p ≤ v .S j (plan .before j + r) p
+      off-sent =
           let l = in-order in
-          rw (is .sent j p)
-          (sub-add-cancel (sent-rises mark v book j (plan .line j) (plan .before j + r) p (l .0) (l .1) (l .2) (l .3) (l .4)))
+          let later = rises j (plan .line j) (plan .before j + r) p (l .0) (l .1) (l .2) (l .3) (l .4) .0 in
+          elim (ℕ-discrete p j) [
+            | yes e ↦
+                let none : v .R p (plan .line p) j ≡ 0 = rw e (book .own j (plan .line j) (l .0) (l .2) (omega arith) .1) in
+                omega (arith, is .off j p)
+            | no ne ↦ omega (arith, is .off j p, is .pairwise p j (l .1) (l .0) ne)
+          ]
 
-      received-falls : applied plan v .R j r p + v .R j (plan .line j) p ≡ v .R j (plan .before j + r) p
+      sent-falls : applied plan v .S j r p + plan .off j p ≡ v .S j (plan .before j + r) p
+      unfolding applied
+      sent-falls = sub-add-cancel off-sent
+
+      received-falls : applied plan v .R j r p + plan .off p j ≡ v .R j (plan .before j + r) p
       unfolding applied
       received-falls =
           let l = in-order in
-          rw (is .received j p)
-          (sub-add-cancel
-          (sent-rises mark receiving receiving-is-book j (plan .line j) (plan .before j + r) p (l .0) (l .1) (l .2) (l .3) (l .4)))
+          let later = rises j (plan .line j) (plan .before j + r) p (l .0) (l .1) (l .2) (l .3) (l .4) .1 in
+          sub-add-cancel (omega (arith, is .off p j))
 
     pub applied-shows : ShowsBook (applied plan v)
     unfolding applied
@@ -73,8 +82,7 @@ module _ (v : View) (shows : ShowsBook v) (book : IsBook mark v) where
       known = λ j r p at.
           let k = shows .known j (plan .before j + r) p (was-counter j r p at) in
           (omega (arith, k .0), omega (arith, k .1));
-      oldest-sent = λ j p h o. rw (is .sent j p, is .before j h) (sub-self (v .S j (plan .line j) p));
-      oldest-received = λ j p h o. rw (is .received j p, is .before j h) (sub-self (v .R j (plan .line j) p));
+      oldest-received = λ j p h o. rw (is .off p j, is .before j h) (sub-self (v .R j (plan .line j) p));
       rising = λ j r p at m.
           let e : plan .before j + suc r ≡ suc (plan .before j + r) = omega arith in
           let k = shows .rising j (plan .before j + r) p (was-counter j r p at) (omega (arith, m, is .adds-up j (at .process))) in
@@ -93,22 +101,21 @@ module _ (v : View) (shows : ShowsBook v) (book : IsBook mark v) where
 
       -- nothing was taken off own columns
       own-back : p ≡ j
-          → (w .S j r p + v .S j (plan .line j) p ≡ v .S j (plan .before j + r) p)
-          × (w .R j r p + v .R j (plan .line j) p ≡ v .R j (plan .before j + r) p)
+          → (w .S j r p + plan .off j p ≡ v .S j (plan .before j + r) p) × (w .R j r p + plan .off p j ≡ v .R j (plan .before j + r) p)
       own-back e =
           let l = in-order j r p at-applied in
           let now = after .own j r (at .process) (at .first) (at .last) in
-          let held = book .own j (plan .line j) (l .0) (l .2) (omega arith) in
+          let none : plan .off j j ≡ 0 = is .off j j ∙ book .own j (plan .line j) (l .0) (l .2) (omega arith) .1 in
           let old = book .own j (plan .before j + r) (l .0) (omega arith) (l .4) in
-          rw e (omega arith, omega arith)
+          rw e (omega (arith, now .0, old .0), omega (arith, now .1, old .1))
 
-      pub sent-back : w .S j r p + v .S j (plan .line j) p ≡ v .S j (plan .before j + r) p
+      pub sent-back : w .S j r p + plan .off j p ≡ v .S j (plan .before j + r) p
       sent-back = elim (ℕ-discrete p j) [
         | yes e ↦ own-back e .0
         | no ne ↦ rw (same .S j r p at ne) (sent-falls j r p at-applied)
       ]
 
-      pub received-back : w .R j r p + v .R j (plan .line j) p ≡ v .R j (plan .before j + r) p
+      pub received-back : w .R j r p + plan .off p j ≡ v .R j (plan .before j + r) p
       received-back = elim (ℕ-discrete p j) [
         | yes e ↦ own-back e .1
         | no ne ↦ rw (same .R j r p at ne) (received-falls j r p at-applied)

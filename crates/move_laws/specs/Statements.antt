@@ -4,17 +4,20 @@ use mathlib.Core.List.{List}
 use Prim.Native.Nat.{ℕ, _+_, _<_}
 use lib.ListN.{length, getD}
 use Rattle.book.specs.Bounds.{entries}
+use Rattle.book.specs.Lent.{Tables}
 use Rattle.book.specs.Accepted.{AreAccepted}
 use Rattle.book.specs.View.{count}
 use Rattle.book.specs.Read.{readQuestion, shapeRead, sentRead, receivedRead}
 use Rattle.book.specs.Write.{bytesOf}
 use Rattle.line_theory.specs.Search.{line}
+use Rattle.line_theory.specs.OfTables.{viewOf}
 use Rattle.consistency.specs.Set.{chosen}
 use Rattle.finder.specs.Line.{checkpoints, lineFound}
-use Rattle.shown.specs.Statements.{IsCounter}
-use Rattle.restart.specs.Plan.{takenOffSent, takenOffReceived}
+use Rattle.shown.specs.Statements.{IsCounter, IsLonger}
+use Rattle.restart.specs.Plan.{takenOff}
 use Rattle.restart.specs.Values.{present}
 use Rattle.move_laws.specs.Moves.{Move, IsAccepted, Advances, Restarts, viewBefore, shapeAfter, sentAfter, receivedAfter, viewAfter, orderWith, withPurpose, again, tablesAfter}
+use Rattle.move_laws.specs.Appended.{MovedBook, unmoved, advanced, IsAppended, appended, Grows, lastOf, along}
 
 -- ---- the moved book
 
@@ -39,14 +42,14 @@ abbrev pub FallsExactly : Type 0
 FallsExactly =
     (m : Move) (j r p : ℕ) → IsAccepted m → IsCounter (viewAfter m) j r p
     → let was : ℕ = getD (orderWith m .before) j 0 + r in
-    (viewAfter m .S j r p + takenOffSent (viewBefore m) (m .purpose) j p ≡ viewBefore m .S j was p)
-    × (viewAfter m .R j r p + takenOffReceived (viewBefore m) (m .purpose) j p ≡ viewBefore m .R j was p)
+    (viewAfter m .S j r p + takenOff (viewBefore m) (m .purpose) j p ≡ viewBefore m .S j was p)
+    × (viewAfter m .R j r p + takenOff (viewBefore m) (m .purpose) p j ≡ viewBefore m .R j was p)
 
 -- "With 2 that is checkpoint 1, so they stay": nothing is taken off.
 abbrev pub TheyStay : Type 0
 TheyStay =
-    (m : Move) (j p : ℕ) → IsAccepted m → m .purpose ≡ 2 → j < m .tables .shape .n → p < m .tables .shape .n
-    → (takenOffSent (viewBefore m) 2 j p ≡ 0) × (takenOffReceived (viewBefore m) 2 j p ≡ 0)
+    (m : Move) (a b : ℕ) → IsAccepted m → m .purpose ≡ 2 → a < m .tables .shape .n → b < m .tables .shape .n
+    → takenOff (viewBefore m) 2 a b ≡ 0
 
 -- After every move the line is checkpoint 1 everywhere,
 abbrev pub LineIsOldest : Type 0
@@ -65,15 +68,18 @@ AgainIsSame =
 abbrev pub OneIsKept : Type 0
 OneIsKept = (m : Move) (j : ℕ) → IsAccepted m → Restarts m → j < m .tables .shape .n → count (shapeAfter m) j ≡ 1
 
--- The received counters of the oldest checkpoint are zero, with every purpose;
+-- The received counters of the oldest checkpoint are zero, with every purpose,
 abbrev pub NoneReceived : Type 0
 NoneReceived =
     (m : Move) (j p : ℕ) → IsAccepted m → j < m .tables .shape .n → p < m .tables .shape .n → viewAfter m .R j 1 p ≡ 0
 
--- its sent counters too.
-abbrev pub NoneSent : Type 0
-NoneSent =
-    (m : Move) (j p : ℕ) → IsAccepted m → j < m .tables .shape .n → p < m .tables .shape .n → viewAfter m .S j 1 p ≡ 0
+-- and its sent counters are exactly what was on its way across the order's checkpoints, which are the line's with purpose 1 or 3:
+-- these counters, and what the receiver's checkpoint had received, are what the sender's had sent.
+abbrev pub SentIsOnItsWay : Type 0
+SentIsOnItsWay =
+    (m : Move) (j p : ℕ) → IsAccepted m → j < m .tables .shape .n → p < m .tables .shape .n
+    → let from : ℕ → ℕ = chosen (orderWith m .from) in
+    viewAfter m .S j 1 p + viewBefore m .R p (from p) j ≡ viewBefore m .S j (from j) p
 
 -- "The then oldest": purpose 3 leaves what purpose 1 and then purpose 2 leave.
 abbrev pub ThreeIsOneThenTwo : Type 0
@@ -111,3 +117,41 @@ abbrev pub AddsUp : Type 0
 AddsUp =
     (m : Move) (j : ℕ) → IsAccepted m → j < m .tables .shape .n
     → getD (orderWith m .before) j 0 + getD (orderWith m .after) j 0 + count (shapeAfter m) j ≡ count (m .tables .shape) j
+
+-- ---- messages on their way when the line moves (document 02, E4)
+
+-- "A user who appends the same later checkpoints, their counters in the moved book less what the move took off, to a book moved with
+-- purpose 1 and to the unmoved one finds the same physical checkpoints on the line of both, if both are accepted". The unmoved book is
+-- then `whole`, the moved one `longer`, and checkpoint r of `longer` was as many checkpoints later as went before.
+abbrev pub SameLine : Type 0
+SameLine =
+    (tables whole longer : Tables) → AreAccepted tables
+    → let k : MovedBook = advanced (unmoved tables) in
+    IsLonger (viewOf tables) (viewOf whole) → IsAppended k (viewOf whole) (viewOf longer) → AreAccepted whole → AreAccepted longer
+    → (j : ℕ) → j < tables .shape .n → k .gone j + line (viewOf longer) j ≡ line (viewOf whole) j
+
+-- There is such a `longer`, accepted whenever `whole` is. (The converse is false: `whole` can have more than 256 checkpoints, or a
+-- counter at the mark.)
+abbrev pub AppendedIsAccepted : Type 0
+AppendedIsAccepted =
+    (tables whole : Tables) → AreAccepted tables
+    → let k : MovedBook = advanced (unmoved tables) in
+    IsLonger (viewOf tables) (viewOf whole) → AreAccepted whole
+    → AreAccepted (appended k whole .tables) × IsAppended k (viewOf whole) (viewOf (appended k whole .tables))
+
+-- Along a chain of moves and appendings, however long, the line of the book that is moved each time is that of the whole book, which
+-- never is;
+abbrev pub SameLineAlong : Type 0
+SameLineAlong =
+    (tables : Tables) (books : List Tables) → Grows tables books
+    → let k : MovedBook = along (unmoved tables) books in
+    AreAccepted (k .tables)
+    × ((j : ℕ) → j < tables .shape .n → k .gone j + line (viewOf (k .tables)) j ≡ line (viewOf (lastOf tables books)) j)
+
+-- and what is appended to it next, after one move more, are the same later checkpoints.
+abbrev pub AppendedAlong : Type 0
+AppendedAlong =
+    (tables next : Tables) (books : List Tables) → Grows tables books
+    → let k : MovedBook = advanced (along (unmoved tables) books) in
+    IsLonger (viewOf (lastOf tables books)) (viewOf next) → AreAccepted next
+    → AreAccepted (appended k next .tables) × IsAppended k (viewOf next) (viewOf (appended k next .tables))

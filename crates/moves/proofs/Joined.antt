@@ -1,8 +1,9 @@
 -- From what the functions write to the definition of the call: the rows that a plan of accepted tables leaves are those of the moved
 -- book.
-use mathlib.Core.Path.{_≡_, sym, ap, ap₂, subst, _∙_}
+use mathlib.Core.Path.{_≡_, sym, ap, subst, _∙_}
 use mathlib.Core.List.{List}
 use Prim.Native.Nat.{ℕ, _+_, _-_, _≤_, _<_}
+use native.Mathlib.Decide.{decLt}
 use native.Mathlib.Omega.{arith}
 use lib.ListN.{getD}
 use Rattle.book.specs.declared.Checkpoint.{Checkpoint}
@@ -22,8 +23,8 @@ use Rattle.shown.specs.Rows.{allRowsTo}
 use Rattle.shown.specs.Statements.{ZeroElsewhere}
 use Rattle.shown.proofs.Theorems.{sent-rows-shown, received-rows-shown, shape-shown, accepted-zero-elsewhere}
 use Rattle.restart.specs.declared.Plan.{Plan}
-use Rattle.restart.specs.Plan.{lineCheckpoint, goBefore, areKept, planned, applied, moved}
-use Rattle.restart.specs.Values.{numbers, takenOff, planOf}
+use Rattle.restart.specs.Plan.{lineCheckpoint, goBefore, areKept, takenOff, planned, applied, moved}
+use Rattle.restart.specs.Values.{numbers, offRows, planOf}
 use Rattle.restart.specs.Calls.{bookMoved}
 use Rattle.restart.proofs.Values.{number-at, checkpoint-at, off-at, numbers-padded}
 use Rattle.restart.proofs.Plans.{IsPlan, planned-is-plan}
@@ -62,37 +63,39 @@ module _ {shape : Shape} {sent received : List ℕ} (accepted : AreAccepted (len
     unfolding planned
     kept-there = omega (arith, is-plan .adds-up j h)
 
-  -- ---- one of the two tables
+  -- ---- one of the two tables, and what is taken off its counters
 
-  module _ (table : List ℕ) where
-    -- what the line checkpoint of process j holds for partner p
-    abbrev held : ℕ → ℕ → ℕ
-    held j p = counterAt (shape .counts) table j (lineCheckpoint v purpose j) p
-
-    -- an entry of the moved table
+  module _ (table : List ℕ) (off : ℕ → ℕ → ℕ) where
+    -- an entry of the moved table, and as the lists of the plan give it
     abbrev movedEntry : ℕ → ℕ → ℕ → ℕ
-    movedEntry j r p = counterAt (shape .counts) table j (goBefore v purpose j + r) p - held j p
+    movedEntry j r p = counterAt (shape .counts) table j (goBefore v purpose j + r) p - off j p
 
-    -- the rows as the lists of the plan give them
-    rows-are : allRowsTo (λ j. getD keptList j 0)
-        (λ j r p. counterAt (shape .counts) table j (chosen lineList j - 1 + r) p - entry (takenOff (shape .n) held) j p) (shape .n)
-        ≡ allRowsTo (areKept v purpose) movedEntry (shape .n)
-    rows-are =
-        let as-moved : ℕ → ℕ → ℕ → ℕ
-        = λ j r p. counterAt (shape .counts) table j (chosen lineList j - 1 + r) p - entry (takenOff (shape .n) held) j p in
-        all-rows-same (shape .n) (λ j. getD keptList j 0) (areKept v purpose) as-moved movedEntry
-        (λ j h. number-at (shape .n) few (areKept v purpose) j h)
-        (λ j r p h _ _ m. ap₂ (λ (k w : ℕ). counterAt (shape .counts) table j (k - 1 + r) p - w)
-        (checkpoint-at (shape .n) few (lineCheckpoint v purpose) j h) (off-at (shape .n) few held j p h m))
+    abbrev listedEntry : ℕ → ℕ → ℕ → ℕ
+    listedEntry j r p = counterAt (shape .counts) table j (chosen lineList j - 1 + r) p - entry (offRows (shape .n) off) j p
 
-    -- zeros from which something is taken off stay zeros
-    zero-elsewhere : ZeroElsewhere v (counterAt (shape .counts) table) → ZeroElsewhere (moved v purpose) movedEntry
-    unfolding planned applied
-    zero-elsewhere none j r h first last =
-        let was = none j (goBefore v purpose j + r) h (omega arith) (omega (arith, kept-there j h)) in (
-          ap (λ (k : ℕ). k - held j j) (was .0) ∙ omega arith,
-          λ p m l. ap (λ (k : ℕ). k - held j p) (was .1 p m l) ∙ omega arith,
-        )
+    module _ (none : ZeroElsewhere v (counterAt (shape .counts) table)) where
+      -- zeros from which something is taken off stay zeros
+      zero-elsewhere : ZeroElsewhere (moved v purpose) movedEntry
+      unfolding planned applied
+      zero-elsewhere j r h first last =
+          let was = none j (goBefore v purpose j + r) h (omega arith) (omega (arith, kept-there j h)) in
+          (omega (arith, was .0), λ p m l. omega (arith, was .1 p m l))
+
+      -- they differ only in what is taken off for absent partners, and there is nothing to take it off
+      entry-same : (j r p : ℕ) → j < shape .n → 1 ≤ r → r ≤ areKept v purpose j → p < 16 → listedEntry j r p ≡ movedEntry j r p
+      entry-same j r p h first last m =
+          let was = none j (goBefore v purpose j + r) h (omega arith) (omega (arith, kept-there j h)) in
+          rw (checkpoint-at (shape .n) few (lineCheckpoint v purpose) j h)
+          (elim (decLt p (shape .n)) [
+            | yes o ↦ rw (off-at (shape .n) few off j p h o)
+            | no o ↦ omega (arith, was .1 p (omega arith) m)
+          ])
+
+      rows-are : allRowsTo (λ j. getD keptList j 0) listedEntry (shape .n) ≡ allRowsTo (areKept v purpose) movedEntry (shape .n)
+      rows-are =
+          let counts = number-at (shape .n) few (areKept v purpose) in
+          all-rows-same (shape .n) (λ j. getD keptList j 0) (areKept v purpose) listedEntry movedEntry counts
+          (λ j r p h first last m. entry-same j r p h first (rw (counts j h) at last) m)
 
   -- ---- the plan fits the rows, and what it leaves is the moved book
 
@@ -110,11 +113,11 @@ module _ {shape : Shape} {sent received : List ℕ} (accepted : AreAccepted (len
             rw (same, checkpoint-at (shape .n) few (lineCheckpoint v purpose) j h, number-at (shape .n) few (areKept v purpose) j h)
             (line-there j h, kept-there j h)
 
-    rows-of : (table : List ℕ) → rowsMoved rows table lineList keptList (takenOff (shape .n) (held table))
-        ≡ allRowsTo (areKept v purpose) (movedEntry table) (shape .n)
-    rows-of table =
-        ap (λ (s : Shape). rowsMoved (record { shape = s; first = rows .first }) table lineList keptList (takenOff (shape .n) (held table))) same
-        ∙ rows-are table
+    rows-of : (table : List ℕ) (off : ℕ → ℕ → ℕ) → ZeroElsewhere v (counterAt (shape .counts) table)
+        → rowsMoved rows table lineList keptList (offRows (shape .n) off) ≡ allRowsTo (areKept v purpose) (movedEntry table off) (shape .n)
+    rows-of table off none =
+        ap (λ (s : Shape). rowsMoved (record { shape = s; first = rows .first }) table lineList keptList (offRows (shape .n) off)) same
+        ∙ rows-are table off none
 
     module _ (plan : Plan) (made : plan ≡ planOf (shape .n) (planned v purpose)) where
       pub movable : Movable rows (plan .line) (plan .kept)
@@ -125,16 +128,17 @@ module _ {shape : Shape} {sent received : List ℕ} (accepted : AreAccepted (len
       unfolding planned applied planOf bookMoved
       sent-moved =
           ap (λ (q : Plan). padded 4096 (rowsMoved rows sent (q .line) (q .kept) (q .off .sent))) made
-          ∙ ap (padded 4096) (rows-of sent)
-          ∙ sym (sent-rows-shown (moved v purpose) few (zero-elsewhere sent (zeros .0)))
+          ∙ ap (padded 4096) (rows-of sent (takenOff v purpose) (zeros .0))
+          ∙ sym (sent-rows-shown (moved v purpose) few (zero-elsewhere sent (takenOff v purpose) (zeros .0)))
 
       pub received-moved : padded 4096 (rowsMoved rows received (plan .line) (plan .kept) (plan .off .received))
           ≡ receivedTable (bookMoved (lent shape sent received) purpose)
       unfolding planned applied planOf bookMoved
       received-moved =
+          let off : ℕ → ℕ → ℕ = λ j p. takenOff v purpose p j in
           ap (λ (q : Plan). padded 4096 (rowsMoved rows received (q .line) (q .kept) (q .off .received))) made
-          ∙ ap (padded 4096) (rows-of received)
-          ∙ sym (received-rows-shown (moved v purpose) few (zero-elsewhere received (zeros .1)))
+          ∙ ap (padded 4096) (rows-of received off (zeros .1))
+          ∙ sym (received-rows-shown (moved v purpose) few (zero-elsewhere received off (zeros .1)))
 
       pub shape-moved : record { n = shape .n; counts = plan .kept } ≡ shapeOf (bookMoved (lent shape sent received) purpose)
       unfolding planned applied planOf bookMoved

@@ -17,7 +17,7 @@ use Rattle.book.specs.declared.Count.{Count}
 use Rattle.book.proofs.Values.{checkpoint, tally}
 use Rattle.matrix.specs.Matrix.{asMatrix}
 use Rattle.finder.specs.Line.{checkpoints}
-use Rattle.restart.specs.Values.{present, numbers, takenOff}
+use Rattle.restart.specs.Values.{present, numbers, rowsOf}
 
 pub filled-numbers : {n : ℕ} {f : ℕ → ℕ} {l : List ℕ} {k : ℕ} → Filled 0 (replicate 16 0) n f l k → n ≤ k → l ≡ numbers n f
 unfolding numbers
@@ -38,8 +38,8 @@ rows-before i n =
     ]
 
 pub filled-rows : (n : ℕ) (f : ℕ → ℕ → ℕ) {l : List Count} {k : ℕ}
-    → Filled (tally 0) (replicate 256 (tally 0)) (n * 16) (λ i. tally (f (i / 16) (i % 16))) l k → n * 16 ≤ k → l ≡ takenOff n f
-unfolding takenOff asMatrix
+    → Filled (tally 0) (replicate 256 (tally 0)) (n * 16) (λ i. tally (f (i / 16) (i % 16))) l k → n * 16 ≤ k → l ≡ rowsOf n f
+unfolding rowsOf asMatrix
 filled-rows n f filled h =
     filled-part 256 filled h
     ∙ tab-same 256 256 _ _ refl

@@ -19,9 +19,10 @@ ghost use Rattle.line_theory.specs.OfTables.{viewOf};
 ghost use Rattle.lists.specs.Pick.{pick};
 ghost use Rattle.consistency.specs.Set.{chosen};
 ghost use Rattle.consistency.specs.Given.{Whole, AllNamed};
+ghost use Rattle.matrix.specs.Matrix.{entry};
 ghost use Rattle.finder.specs.Line.{checkpoints};
 ghost use Rattle.restart.specs.Plan.{advances, restarts, lineCheckpoint, planned};
-ghost use Rattle.restart.specs.Values.{present, numbers, takenOff, planOf};
+ghost use Rattle.restart.specs.Values.{present, numbers, rowsOf, planOf};
 ghost use Rattle.restart.specs.Calls.{noOrder, moveQuestion, orderGiven};
 
 // The answer of `restart_order`; beside a refusal all numbers are zero.
@@ -149,10 +150,10 @@ fn kept_from(shape: Shape, line: [Checkpoint; 16], purpose: u64) -> [usize; 16]
     kept
 }
 
-// What the line checkpoints hold in a table, one row for each process.
-fn held_by(rows: TableRows, table: &[Counter], line: [Checkpoint; 16]) -> [Count; 256]
-    requires { ⌜ Whole rows (now table) × AllNamed (rows .shape) line ⌝ }
-    ensures { λ r. ⌜ r ≡ takenOff (rows .shape .n) (λ j p. counterAt (rows .shape .counts) (now (table .entry)) j (chosen line j) p) ⌝ }
+// What the line checkpoints had received, a row for each process: what is taken off the receivers' counters.
+fn received_by(rows: TableRows, received: &[Counter], line: [Checkpoint; 16]) -> [Count; 256]
+    requires { ⌜ Whole rows (now received) × AllNamed (rows .shape) line ⌝ }
+    ensures { λ r. ⌜ r ≡ rowsOf (rows .shape .n) (λ j p. counterAt (rows .shape .counts) (now (received .entry)) j (chosen line j) p) ⌝ }
 {
     let shape = rows.shape;
     let n = shape.n;
@@ -162,10 +163,26 @@ fn held_by(rows: TableRows, table: &[Counter], line: [Checkpoint; 16]) -> [Count
     while i < n * book::ROW_WIDTH {
         let j = i / book::ROW_WIDTH;
         let p = i % book::ROW_WIDTH;
-        held[i] = book::counter(table, first[j], line[j], Process(p + 1));
+        held[i] = book::counter(received, first[j], line[j], Process(p + 1));
         i += 1;
     }
     held
+}
+
+// What is taken off the senders' counters: the same matrix read the other way.
+fn by_sender(n: usize, received: [Count; 256]) -> [Count; 256]
+    requires { ⌜ n ≤ 16 ⌝ }
+    ensures { λ r. ⌜ r ≡ rowsOf n (λ a b. entry received b a) ⌝ }
+{
+    let mut sent = [Count(0); 256];
+    let mut i = 0;
+    while i < n * book::ROW_WIDTH {
+        let a = i / book::ROW_WIDTH;
+        let b = i % book::ROW_WIDTH;
+        sent[i] = received[b * book::ROW_WIDTH + a];
+        i += 1;
+    }
+    sent
 }
 
 // The first question of a move that fails: of the tables, then 11; 0 for none.
@@ -190,9 +207,10 @@ pub fn plan_move(rows: TableRows, sent: &[Counter], received: &[Counter], purpos
     let shape = rows.shape;
     let line = line_checkpoints(rows, sent, received, purpose);
     let kept = kept_from(shape, line, purpose);
+    let off_received = received_by(rows, received, line);
     let off = TakenOff {
-        sent: held_by(rows, sent, line),
-        received: held_by(rows, received, line),
+        sent: by_sender(shape.n, off_received),
+        received: off_received,
     };
     let order = order_to(shape, line, purpose);
     Plan {

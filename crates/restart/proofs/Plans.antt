@@ -4,7 +4,7 @@ use mathlib.Core.Bool.{Bool, true, false}
 use Prim.Native.Nat.{ℕ, _+_, _-_, _≤_, _<_}
 use native.Mathlib.Omega.{arith}
 use Rattle.book.specs.Bounds.{mark}
-use Rattle.line_theory.specs.Sets.{View, IsBook, IsSet, IsLine}
+use Rattle.line_theory.specs.Sets.{View, IsBook, IsSet, Consistent, IsLine}
 use Rattle.line_theory.specs.Search.{line}
 use Rattle.line_theory.proofs.Theorems.{line-is-line}
 use Rattle.lists.specs.Pick.{pick}
@@ -18,9 +18,9 @@ pub record IsPlan (v : View) (plan : Planned) : Type 0 where
   -- one at least is kept, and none is lost
   pub some : (j : ℕ) → j < v .n → 1 ≤ plan .kept j
   pub adds-up : (j : ℕ) → j < v .n → plan .before j + plan .after j + plan .kept j ≡ v .count j
-  -- what that checkpoint held is taken off
-  pub sent : (j p : ℕ) → plan .offSent j p ≡ v .S j (plan .line j) p
-  pub received : (j p : ℕ) → plan .offReceived j p ≡ v .R j (plan .line j) p
+  -- these checkpoints belong together, and what the receiver's had received is taken off a channel
+  pub pairwise : Consistent v (plan .line)
+  pub off : (a b : ℕ) → plan .off a b ≡ v .R b (plan .line b) a
 
 -- the line's checkpoint is c, of k in all
 picks-add-up : (t : Bool) (c k : ℕ) → 1 ≤ c → c ≤ k → c - 1 + pick t (k - c) 0 + pick t 1 (k - (c - 1)) ≡ k
@@ -36,6 +36,14 @@ line-is-set v purpose book =
       among = λ j h. pick-each (λ r. r ≤ v .count j) (advances purpose) (line v j) 1 (found .is-set .among j h) (book .some j h);
     }
 
+-- which is consistent: the line is, and the oldest checkpoints have received nothing
+line-consistent : (v : View) (purpose : ℕ) → IsBook mark v → Consistent v (lineCheckpoint v purpose)
+line-consistent v purpose book j p h o other = go (advances purpose)
+  where
+    go : (t : Bool) → v .R j (pick t (line v j) 1) p ≤ v .S p (pick t (line v p) 1) j
+    go true = line-is-line mark v book .pairwise j p h o other
+    go false = omega (arith, book .oldest j p h o)
+
 pub planned-is-plan : (v : View) (purpose : ℕ) → IsBook mark v → IsPlan v (planned v purpose)
 unfolding planned
 planned-is-plan v purpose book = record {
@@ -45,8 +53,8 @@ planned-is-plan v purpose book = record {
       let line-on : 1 ≤ v .count j - (lineCheckpoint v purpose j - 1) = omega (arith, there .some j h, there .among j h) in
       pick-each (λ k. 1 ≤ k) (restarts purpose) 1 (v .count j - (lineCheckpoint v purpose j - 1)) (omega arith) line-on;
   adds-up = λ j h. picks-add-up (restarts purpose) (lineCheckpoint v purpose j) (v .count j) (there .some j h) (there .among j h);
-  sent = λ j p. refl;
-  received = λ j p. refl;
+  pairwise = line-consistent v purpose book;
+  off = λ a b. refl;
 }
   where
     there : IsSet v (lineCheckpoint v purpose)

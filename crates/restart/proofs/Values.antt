@@ -1,7 +1,7 @@
 -- What stands in the lists of a plan and of a restart order.
 use mathlib.Core.Path.{_≡_, refl, sym, ap, fun-ext, _∙_}
 use mathlib.Core.List.{List, _++_}
-use Prim.Native.Nat.{ℕ, _+_, _-_, _≤_, _<_}
+use Prim.Native.Nat.{ℕ, _+_, _-_, _/_, _%_, _≤_, _<_}
 use native.Mathlib.Decide.{decLt}
 use native.Mathlib.Omega.{arith}
 use borrow.Author.Tests.{lt-ltb, le-ltb}
@@ -10,14 +10,15 @@ use lib.Seq.{getD-append-add}
 use lib.Dec.{ltb}
 use Rattle.book.specs.Tables.{padded}
 use Rattle.lists.specs.Over.{tab}
-use Rattle.lists.proofs.Over.{length-tab, getD-tab, tab-is}
+use Rattle.lists.proofs.Over.{length-tab, getD-tab, tab-is, tab-same}
+use Rattle.book.proofs.Values.{tally}
 use Rattle.consistency.specs.Set.{chosen}
 use Rattle.lists.proofs.Pick.{pick-each}
 use Rattle.matrix.specs.Matrix.{asMatrix, entry}
 use Rattle.matrix.proofs.Rows.{entry-of-matrix}
 use Rattle.finder.specs.Line.{checkpoints}
 use Rattle.finder.proofs.Sixteen.{chosen-there}
-use Rattle.restart.specs.Values.{present, numbers, takenOff}
+use Rattle.restart.specs.Values.{present, numbers, rowsOf, offRows}
 
 -- ---- of processes that there are
 
@@ -29,9 +30,17 @@ module _ (n : ℕ) (few : n ≤ 16) where
   pub checkpoint-at : (f : ℕ → ℕ) (j : ℕ) → j < n → chosen (checkpoints (present n f)) j ≡ f j
   checkpoint-at f j h = chosen-there (present n f) j (omega arith) ∙ rw (lt-ltb j n h)
 
-  pub off-at : (off : ℕ → ℕ → ℕ) (j p : ℕ) → j < n → p < 16 → entry (takenOff n off) j p ≡ off j p
-  unfolding takenOff
-  off-at off j p h m = entry-of-matrix (λ j p. present n (λ i. off i p) j) j p (omega arith) m ∙ rw (lt-ltb j n h)
+  row-at : (f : ℕ → ℕ → ℕ) (j p : ℕ) → j < n → p < 16 → entry (rowsOf n f) j p ≡ f j p
+  unfolding rowsOf
+  row-at f j p h m = entry-of-matrix (λ j p. present n (λ i. f i p) j) j p (omega arith) m ∙ rw (lt-ltb j n h)
+
+  -- absent processes have no row
+  pub row-none : (f : ℕ → ℕ → ℕ) (j p : ℕ) → n ≤ j → j < 16 → p < 16 → entry (rowsOf n f) j p ≡ 0
+  unfolding rowsOf
+  row-none f j p none h m = entry-of-matrix (λ j p. present n (λ i. f i p) j) j p h m ∙ rw (le-ltb j n none)
+
+  pub off-at : (off : ℕ → ℕ → ℕ) (j p : ℕ) → j < n → p < n → entry (offRows n off) j p ≡ off j p
+  off-at off j p h o = row-at (λ j p. present n (off j) p) j p h (omega arith) ∙ rw (lt-ltb p n o)
 
   -- sixteen numbers are those of the processes, and zeros after them
   pub numbers-padded : (f : ℕ → ℕ) → numbers n f ≡ padded 16 (tab n f)
@@ -88,9 +97,9 @@ pub numbers-ext : (n : ℕ) (f g : ℕ → ℕ) → ((j : ℕ) → j < n → f j
 unfolding numbers
 numbers-ext n f g same = ap (tab 16) (present-ext n f g same)
 
-pub off-ext : (n : ℕ) (f g : ℕ → ℕ → ℕ) → ((j p : ℕ) → j < n → f j p ≡ g j p) → takenOff n f ≡ takenOff n g
-unfolding takenOff
-off-ext n f g same = ap asMatrix (fun-ext (λ j. fun-ext (λ p. at j p)))
-  where
-    at : (j p : ℕ) → present n (λ i. f i p) j ≡ present n (λ i. g i p) j
-    at j p = ap (λ (h : ℕ → ℕ). h j) (present-ext n (λ i. f i p) (λ i. g i p) (λ i m. same i p m))
+pub rows-ext : (n : ℕ) (f g : ℕ → ℕ → ℕ) → ((j p : ℕ) → j < n → p < 16 → f j p ≡ g j p) → rowsOf n f ≡ rowsOf n g
+unfolding rowsOf asMatrix
+rows-ext n f g same =
+    tab-same 256 256 _ _ refl (λ i m.
+    ap (λ (at : ℕ → ℕ). tally (at (i / 16)))
+    (present-ext n (λ k. f k (i % 16)) (λ k. g k (i % 16)) (λ k l. same k (i % 16) l (omega arith))))

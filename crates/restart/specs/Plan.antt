@@ -1,4 +1,4 @@
--- Document 01, "The move (K 5.4)", on the abstract view of a book: a plan, which says of each process what stays, what goes and what
+-- Document 01, "The move (K 5.4)", and document 02, E4, on the abstract view of a book: a plan, which says of each process what stays, what goes and what
 -- is taken off, and then its application. Processes and partners count from 0, checkpoints from 1, the oldest.
 use mathlib.Core.Bool.{Bool, _||_}
 use Prim.Native.Nat.{ℕ, _+_, _-_}
@@ -24,12 +24,11 @@ pub record Planned : Type 0 where
   pub before : ℕ → ℕ
   pub after : ℕ → ℕ
   pub kept : ℕ → ℕ
-  -- what is taken off the counter of what it sent to partner p, and off that of what it received from p
-  pub offSent : ℕ → ℕ → ℕ
-  pub offReceived : ℕ → ℕ → ℕ
+  -- what is taken off the channel from process a to process b, at both its ends
+  pub off : ℕ → ℕ → ℕ
 
 module _ (v : View) (purpose : ℕ) where
-  -- "its own process's line checkpoint .. with 2 that is checkpoint 1"
+  -- a process's "line checkpoint": the line's, and "with 2 that is checkpoint 1"
   abbrev pub lineCheckpoint : ℕ → ℕ
   lineCheckpoint j = pick (advances purpose) (line v j) 1
 
@@ -45,13 +44,10 @@ module _ (v : View) (purpose : ℕ) where
   abbrev pub areKept : ℕ → ℕ
   areKept j = pick (restarts purpose) 1 (v .count j - goBefore j)
 
-  -- "Each kept checkpoint's counters fall by those that its own process's line checkpoint held": the sender's counter, and the
-  -- receiver's
-  abbrev pub takenOffSent : ℕ → ℕ → ℕ
-  takenOffSent j p = v .S j (lineCheckpoint j) p
-
-  abbrev pub takenOffReceived : ℕ → ℕ → ℕ
-  takenOffReceived j p = v .R j (lineCheckpoint j) p
+  -- Document 02, E4: "a move takes off, at both ends of a channel, what the receiver's line checkpoint had received": of the
+  -- channel from process a to process b
+  abbrev pub takenOff : ℕ → ℕ → ℕ
+  takenOff a b = v .R b (lineCheckpoint b) a
 
   unfoldable pub planned : Planned
   planned =
@@ -60,18 +56,18 @@ module _ (v : View) (purpose : ℕ) where
         before = goBefore;
         after = goAfter;
         kept = areKept;
-        offSent = takenOffSent;
-        offReceived = takenOffReceived;
+        off = takenOff;
       }
 
--- The book as a plan leaves it: what is then checkpoint r was checkpoint `before` + r.
+-- The book as a plan leaves it: what is then checkpoint r was checkpoint `before` + r. Of the channel from j to p process j is the
+-- sender, of that from p to j the receiver.
 unfoldable pub applied : Planned → View → View
 applied plan v =
     record {
       n = v .n;
       count = plan .kept;
-      S = λ j r p. v .S j (plan .before j + r) p - plan .offSent j p;
-      R = λ j r p. v .R j (plan .before j + r) p - plan .offReceived j p;
+      S = λ j r p. v .S j (plan .before j + r) p - plan .off j p;
+      R = λ j r p. v .R j (plan .before j + r) p - plan .off p j;
     }
 
 -- the move

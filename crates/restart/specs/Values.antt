@@ -29,15 +29,19 @@ orderOf n plan =
       after = numbers n (plan .after);
     }
 
--- what is taken off, a row of the matrix for each process
-unfoldable pub takenOff : ℕ → (ℕ → ℕ → ℕ) → List Count
-takenOff n off = asMatrix (λ j p. present n (λ i. off i p) j)
+-- a row of sixteen for each process
+unfoldable pub rowsOf : ℕ → (ℕ → ℕ → ℕ) → List Count
+rowsOf n f = asMatrix (λ j p. present n (λ i. f i p) j)
+
+-- what is taken off: a row for each process, a column for each partner
+abbrev pub offRows : ℕ → (ℕ → ℕ → ℕ) → List Count
+offRows n off = rowsOf n (λ j p. present n (off j) p)
 
 unfoldable pub planOf : ℕ → Planned → Plan
 planOf n plan =
     record {
       line = checkpoints (present n (plan .line));
       kept = numbers n (plan .kept);
-      off = record { sent = takenOff n (plan .offSent); received = takenOff n (plan .offReceived) };
+      off = record { sent = offRows n (plan .off); received = offRows n (λ j p. plan .off p j) };
       order = orderOf n plan;
     }

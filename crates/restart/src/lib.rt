@@ -10,7 +10,8 @@ pub struct Order {
     pub after: [usize; 16],
 }
 
-// What a move takes off the counters of each process: a row of sixteen for each in either matrix.
+// What a move takes off the counters of each process, of what it sent and of what it received: a row of sixteen for each, one
+// matrix read both ways.
 pub struct TakenOff {
     pub sent: [Count; 256],
     pub received: [Count; 256],

@@ -36,7 +36,6 @@ module _ (book : Book) where
         few = few-in-all (countsOf ps) (g .sound .counts);
         counters = λ j r h k. g .sound .wide j r (within j h) k;
         known = λ j r k h m i. known j r h m k i;
-        oldest-sent = oldest-sent;
         oldest-received = oldest-received;
         rising = λ j r k h m i. rising j r h m k i;
       }
@@ -64,9 +63,6 @@ module _ (book : Book) where
       rising j r h m =
           let all = passes j (suc r) h m in
           by-half (λ k. counter book j r k ≤ counter book j (suc r) k) (book .n - 1) (λ k i. all .sent k i .rising) (λ k i. all .received k i .rising)
-
-      oldest-sent : (j k : ℕ) → j < book .n → k < book .n - 1 → counter book j 0 k ≡ 0
-      oldest-sent j k h i = eqb-true (counter book j 0 k) 0 (passes j 0 h (some j h) .sent k i .zero)
 
       oldest-received : (j k : ℕ) → j < book .n → k < book .n - 1 → counter book j 0 (book .n - 1 + k) ≡ 0
       oldest-received j k h i = eqb-true (counter book j 0 (book .n - 1 + k)) 0 (passes j 0 h (some j h) .received k i .zero)
@@ -102,7 +98,7 @@ module _ (book : Book) where
             sent = λ k i.
                 record {
                   known = w .known j 0 k h m (omega arith);
-                  zero = eq-eqb (counter book j 0 k) 0 (w .oldest-sent j k h i);
+                  zero = refl;
                   rising = first j k (omega arith);
                 };
             received = λ k i.

@@ -30,8 +30,7 @@ pub record WellFormed (book : Book) : Type 0 where
   pub counters : (j r : ℕ) → j < book .n → r < length (process book j) → length (checkpoint book j r) ≡ width (book .n)
   -- 6: no counter is the mark
   pub known : (j r k : ℕ) → j < book .n → r < length (process book j) → k < width (book .n) → counter book j r k < mark
-  -- 7: an oldest checkpoint holds zeros, in its sent half and in its received half
-  pub oldest-sent : (j k : ℕ) → j < book .n → k < book .n - 1 → counter book j 0 k ≡ 0
+  -- 7: an oldest checkpoint has received nothing
   pub oldest-received : (j k : ℕ) → j < book .n → k < book .n - 1 → counter book j 0 (book .n - 1 + k) ≡ 0
   -- 8: no counter is lower than the same counter one checkpoint before
   pub rising : (j r k : ℕ) → j < book .n → suc r < length (process book j) → k < width (book .n) → counter book j r k ≤ counter book j (suc r) k

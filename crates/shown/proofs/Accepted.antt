@@ -16,7 +16,7 @@ use Rattle.book.proofs.Counts.{few-in-all}
 use Rattle.lists.specs.Over.{sumTo}
 use Rattle.line_theory.specs.Sets.{View, IsBook}
 use Rattle.line_theory.specs.OfTables.{viewOf}
-use Rattle.line_theory.proofs.Accepted.{by-column, checked, well, unused-entry, inside, received-own, sent-of, received-of, received-rises, accepted-book}
+use Rattle.line_theory.proofs.Accepted.{by-column, checked, well, unused-entry, inside, received-own, received-of, received-rises, accepted-book}
 use Rattle.shown.specs.Statements.{IsCounter, ShowsBook, ZeroElsewhere, AcceptedShows, AcceptedZeroElsewhere}
 use Rattle.book.proofs.Sums.{sum-of}
 
@@ -50,12 +50,6 @@ module _ {shape : Shape} {sent received : List ℕ} (are : AreAccepted (lent sha
         by-column (λ q. R shape received j (suc r) q < mark) (shape .n) j h (rw (received-own are j r h m) (omega arith))
         (λ k i. rw (received-of are j r h m k i) (well are .known j r (shape .n - 1 + k) h (inside are j r h m) (omega arith)))
 
-  sent-oldest : (j p : ℕ) → j < shape .n → p < shape .n → S shape sent j 1 p ≡ 0
-  sent-oldest j p h =
-      let some : 1 ≤ count shape j = is-book .some j h in
-      by-column (λ q. S shape sent j 1 q ≡ 0) (shape .n) j h (is-book .own j 1 h (omega arith) some .0)
-      (λ k i. sent-of are j 0 h some k i ∙ well are .oldest-sent j k h i) p
-
   shows : ShowsBook v
   shows =
       record {
@@ -63,7 +57,6 @@ module _ {shape : Shape} {sent received : List ℕ} (are : AreAccepted (lent sha
         some = is-book .some;
         few = few;
         known = known;
-        oldest-sent = sent-oldest;
         oldest-received = is-book .oldest;
         rising = rising;
       }

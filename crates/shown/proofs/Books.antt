@@ -90,7 +90,6 @@ module _ (v : View) (shows : ShowsBook v) where
         few = few;
         counters = λ j r h m. ap length (checkpoint-shown v j h r (inside j r h m)) ∙ length-counters v j (suc r);
         known = λ j r k h m i. known j r h (inside j r h m) k i;
-        oldest-sent = oldest-sent;
         oldest-received = oldest-received;
         rising = λ j r k h m i. rising j r h (inside j (suc r) h m) k i;
       }
@@ -103,11 +102,6 @@ module _ (v : View) (shows : ShowsBook v) where
           by-half (λ k. counter book j r k < mark) (v .n - 1)
           (λ k i. rw (sent-shown v j h r k m i) (shows .known j (suc r) (partnerColumn j k) (is-counter v j r k h m i) .0))
           (λ k i. rw (received-shown v j h r k m i) (shows .known j (suc r) (partnerColumn j k) (is-counter v j r k h m i) .1))
-
-      oldest-sent : (j k : ℕ) → j < v .n → k < v .n - 1 → counter book j 0 k ≡ 0
-      oldest-sent j k h i =
-          let some : 1 ≤ v .count j = shows .some j h in
-          sent-shown v j h 0 k some i ∙ shows .oldest-sent j (partnerColumn j k) h (is-counter v j 0 k h some i .partner)
 
       oldest-received : (j k : ℕ) → j < v .n → k < v .n - 1 → counter book j 0 (v .n - 1 + k) ≡ 0
       oldest-received j k h i =

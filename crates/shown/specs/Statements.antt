@@ -26,7 +26,6 @@ pub record ShowsBook (v : View) : Type 0 where
   pub some : (j : ℕ) → j < v .n → 1 ≤ v .count j
   pub few : sumTo (v .n) (v .count) ≤ mostCheckpoints
   pub known : (j r p : ℕ) → IsCounter v j r p → (v .S j r p < mark) × (v .R j r p < mark)
-  pub oldest-sent : (j p : ℕ) → j < v .n → p < v .n → v .S j 1 p ≡ 0
   pub oldest-received : (j p : ℕ) → j < v .n → p < v .n → v .R j 1 p ≡ 0
   pub rising :
       (j r p : ℕ) → IsCounter v j r p → r < v .count j → (v .S j r p ≤ v .S j (suc r) p) × (v .R j r p ≤ v .R j (suc r) p)
@@ -43,6 +42,13 @@ pub record SameCounters (v w : View) : Type 0 where
   pub count : (j : ℕ) → j < v .n → v .count j ≡ w .count j
   pub S : (j r p : ℕ) → IsCounter v j r p → (p ≡ j → ⊥) → v .S j r p ≡ w .S j r p
   pub R : (j r p : ℕ) → IsCounter v j r p → (p ≡ j → ⊥) → v .R j r p ≡ w .R j r p
+
+-- a view of a book with later checkpoints appended: what it had is still there
+pub record IsLonger (v longer : View) : Type 0 where
+  pub n : longer .n ≡ v .n
+  pub count : (j : ℕ) → j < v .n → v .count j ≤ longer .count j
+  pub S : (j r p : ℕ) → IsCounter v j r p → longer .S j r p ≡ v .S j r p
+  pub R : (j r p : ℕ) → IsCounter v j r p → longer .R j r p ≡ v .R j r p
 
 -- The tables of the book that a view shows are its rows of sixteen, where they are zero elsewhere.
 abbrev pub SentRowsShown : Type 0

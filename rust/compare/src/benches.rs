@@ -8,6 +8,7 @@ use crate::layout::{initiator, participant, session, slot_start};
 use crate::layout::{strand_bytes, Counter, BOOK_BYTES, ORDER_WORDS, PAIR_WORDS, PROCESSES, SET_WORDS};
 use crate::lent::{Guarded, Lent};
 use crate::line::line;
+use crate::move_claims::ADVANCE;
 use crate::ours;
 use crate::scenarios::lent_tables;
 use reference::{Session, Shape};
@@ -36,7 +37,21 @@ pub enum Operation {
     /// A start and turns until nothing waits, lowest strand first.
     Session,
     Search,
+    /// A move with purpose 3.
     Move,
+    /// A move with purpose 1.
+    Advance,
+}
+
+impl Operation {
+    /// The purpose of a move.
+    fn purpose(self) -> u64 {
+        if self == Operation::Advance {
+            ADVANCE
+        } else {
+            PURPOSE
+        }
+    }
 }
 
 /// What the independent implementation works on.
@@ -162,7 +177,7 @@ impl Bench {
                 self.native.session.clone_from(&self.kept_session);
                 self.native.out.copy_from_slice(self.kept.out.lent());
             }
-            Operation::Move => {
+            Operation::Move | Operation::Advance => {
                 self.lent.shape.lent_mut().copy_from_slice(self.kept.shape.lent());
                 self.lent.sent.lent_mut().copy_from_slice(self.kept.sent.lent());
                 self.lent.received.lent_mut().copy_from_slice(self.kept.received.lent());
@@ -185,7 +200,7 @@ impl Bench {
             Operation::TestCheckpoint => Call::TestCheckpoint,
             Operation::Find => Call::Find,
             Operation::Search => Call::Search,
-            Operation::Move => Call::Move,
+            Operation::Move | Operation::Advance => Call::Move,
             Operation::ParticipantReceive => Call::ParticipantReceive,
             Operation::InitiatorReceive => Call::InitiatorReceive,
             Operation::Turn => return self.turn_ours(self.turn),
@@ -241,7 +256,9 @@ impl Bench {
             }
             Operation::Find => black_box(reference::find_line(shape, sent, received)).is_ok(),
             Operation::Search => black_box(reference::search(shape, sent, received, INITIATOR, PURPOSE)).is_ok(),
-            Operation::Move => black_box(reference::move_line(shape, sent, received, PURPOSE)).is_ok(),
+            Operation::Move | Operation::Advance => {
+                black_box(reference::move_line(shape, sent, received, self.operation.purpose())).is_ok()
+            }
             Operation::Turn => return self.turn_theirs(self.turn),
             Operation::ParticipantReceive | Operation::InitiatorReceive => return self.receive_theirs(),
             Operation::Session => return self.session_theirs(),
@@ -335,11 +352,11 @@ fn lent_for(operation: Operation, book: &Book) -> Lent {
     lent.state = Guarded::fresh(session::WORDS);
     lent.result = Guarded::fresh(match operation {
         Operation::TestSet | Operation::TestNewest => PAIR_WORDS,
-        Operation::Move => ORDER_WORDS,
+        Operation::Move | Operation::Advance => ORDER_WORDS,
         _ => SET_WORDS,
     });
     lent.names = match operation {
-        Operation::Move => [PURPOSE, 0, 0],
+        Operation::Move | Operation::Advance => [operation.purpose(), 0, 0],
         Operation::TestCheckpoint => [FIRST, book.count(1) as u64, 0],
         _ => [INITIATOR, PURPOSE, 0],
     };

@@ -10,6 +10,15 @@ pub struct Book {
     pub received: Vec<Counter>,
 }
 
+/// A checkpoint's counters in one table.
+pub type Row = [Counter; PROCESSES];
+
+/// Takes rows out of a table.
+pub fn drop_rows(table: &mut [Counter], first: usize, count: usize) {
+    table.copy_within((first + count) * PROCESSES.., first * PROCESSES);
+    table[TABLE_ENTRIES - count * PROCESSES..].fill(0);
+}
+
 /// Which table a counter stands in.
 #[derive(Clone, Copy, PartialEq, Eq, Debug)]
 pub enum Table {
@@ -83,6 +92,30 @@ impl Book {
             Table::Sent => &mut self.sent[place],
             Table::Received => &mut self.received[place],
         }
+    }
+
+    /// Whether an oldest checkpoint has sent what is on its way still.
+    pub fn is_in_flight(&self) -> bool {
+        (1..=self.n()).any(|j| (1..=self.n()).any(|p| self.sent_at(j, 1, p) > 0))
+    }
+
+    /// Appends a checkpoint to process j; a row must be free.
+    pub fn append(&mut self, j: usize, sent: &Row, received: &Row) {
+        let at = self.place(j, self.count(j) + 1, 1);
+        for (table, row) in [(&mut self.sent, sent), (&mut self.received, received)] {
+            table.copy_within(at..TABLE_ENTRIES - PROCESSES, at + PROCESSES);
+            table[at..at + PROCESSES].copy_from_slice(row);
+        }
+        self.shape[j] += 1;
+    }
+
+    /// Keeps the oldest checkpoints of process j, so many of them.
+    pub fn keep_oldest(&mut self, j: usize, kept: usize) {
+        let first = self.place(j, kept + 1, 1) / PROCESSES;
+        let dropped = self.count(j) - kept;
+        drop_rows(&mut self.sent, first, dropped);
+        drop_rows(&mut self.received, first, dropped);
+        self.shape[j] = kept as u64;
     }
 
     /// The numbers of the book in its order, each with what it says.

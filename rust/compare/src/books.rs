@@ -17,18 +17,28 @@ pub fn any_book(random: &mut Random) -> Book {
         10 => small_counts(random),
         _ => one_process_or_oldest_only(random),
     };
-    with_counters_moved(random, book)
+    finished(random, book)
 }
 
 /// A book whose searches are short: few processes and checkpoints.
 pub fn small_book(random: &mut Random) -> Book {
     let book = tiny(random);
-    with_counters_moved(random, book)
+    finished(random, book)
 }
 
 /// A book whose line is far from the newest checkpoints, with up to 256 checkpoints.
 pub fn far_book(random: &mut Random) -> Book {
     let book = falling_far(random);
+    finished(random, book)
+}
+
+/// What a book of every kind may get: messages on their way when the line was set, and counters of another range.
+fn finished(random: &mut Random, book: Book) -> Book {
+    let book = if random.once_in(2) {
+        with_messages_in_flight(random, book)
+    } else {
+        book
+    };
     with_counters_moved(random, book)
 }
 
@@ -222,6 +232,34 @@ fn one_process_or_oldest_only(random: &mut Random) -> Book {
         return Book::of_zeros(&vec![1; random.between(1, PROCESSES)]);
     }
     Book::of_zeros(&[random.one_of(&[1, 2, 3, 128, CHECKPOINTS])])
+}
+
+/// Puts messages on some channels that the oldest checkpoints had sent and not received. Either all later ones have received
+/// them, so that the line stays, or on each channel those from some checkpoint on, and perhaps not all.
+fn with_messages_in_flight(random: &mut Random, mut book: Book) -> Book {
+    let n = book.n();
+    let rare = random.one_of(&[1, 2, 6]);
+    let at_once = random.once_in(2);
+    for j in 1..=n {
+        for p in (1..=n).filter(|&p| p != j) {
+            if !random.once_in(rare) {
+                continue;
+            }
+            let messages = random.between(1, 4);
+            let (first, received) = if at_once {
+                (2, messages)
+            } else {
+                (random.between(2, book.count(p) + 1), random.between(0, messages))
+            };
+            for r in 1..=book.count(j) {
+                *book.entry_mut(Table::Sent, j, r, p) += messages as Counter;
+            }
+            for r in first..=book.count(p) {
+                *book.entry_mut(Table::Received, p, r, j) += received as Counter;
+            }
+        }
+    }
+    book
 }
 
 /// Moves the counters, in their order, to another range: near a border between lengths of numbers, or to the largest.

@@ -6,11 +6,13 @@ use crate::explore::{explore_book, Explored};
 use crate::layout::{participants, Counter};
 use crate::random::Random;
 
-/// All books of n processes with at most so many checkpoints each and counters up to a largest.
+/// All books of n processes with at most so many checkpoints each and counters up to a largest; those that the oldest have sent
+/// up to another.
 struct Family {
     n: usize,
     checkpoints: usize,
     largest: Counter,
+    in_flight: Counter,
 }
 
 /// A checkpoint's counters: those sent to every partner, then those received from every partner.
@@ -21,8 +23,10 @@ type History = Vec<Row>;
 impl Family {
     /// Every history of one process.
     fn histories(&self) -> Vec<History> {
-        let oldest = vec![0; 2 * (self.n - 1)];
-        let mut all = vec![vec![oldest]];
+        let partners = self.n - 1;
+        let sent = rows_between(&vec![0; partners], &vec![self.in_flight; partners]);
+        let oldest = sent.into_iter().map(|sent| [sent, vec![0; partners]].concat());
+        let mut all: Vec<History> = oldest.map(|row| vec![row]).collect();
         let mut longest = all.clone();
         for _ in 1..self.checkpoints {
             longest = longest.iter().flat_map(|history| self.longer(history)).collect();
@@ -34,13 +38,7 @@ impl Family {
     /// Every history with one checkpoint more.
     fn longer(&self, history: &History) -> Vec<History> {
         let last = history.last().expect("a history has an oldest checkpoint");
-        let mut rows: Vec<Row> = vec![Vec::new()];
-        for &counter in last {
-            let grown = rows
-                .iter()
-                .flat_map(|row| (counter..=self.largest).map(move |next| with(row, next)));
-            rows = grown.collect();
-        }
+        let rows = rows_between(last, &vec![self.largest; last.len()]);
         rows.into_iter().map(|row| [&history[..], &[row]].concat()).collect()
     }
 
@@ -66,6 +64,18 @@ impl Family {
         }
         book
     }
+}
+
+/// Every row whose counters are at least those of one row and at most those of another.
+fn rows_between(least: &[Counter], most: &[Counter]) -> Vec<Row> {
+    let mut rows: Vec<Row> = vec![Vec::new()];
+    for (&low, &high) in least.iter().zip(most) {
+        let grown = rows
+            .iter()
+            .flat_map(|row| (low..=high).map(move |next| with(row, next)));
+        rows = grown.collect();
+    }
+    rows
 }
 
 fn with(row: &Row, counter: Counter) -> Row {
@@ -101,13 +111,16 @@ fn explore_family(family: &Family, most: u64, seed: u64) -> Result<Explored, Str
         n,
         checkpoints,
         largest,
+        in_flight,
     } = family;
     let of = if drawn {
         format!("drawn from {size}")
     } else {
         "all".to_string()
     };
-    println!("n {n}, up to {checkpoints} checkpoints each, counters to {largest}, {of}: {explored}");
+    println!(
+        "n {n}, up to {checkpoints} checkpoints each, counters to {largest}, the oldest sent to {in_flight}, {of}: {explored}"
+    );
     Ok(explored)
 }
 
@@ -127,19 +140,26 @@ fn explore_rings(large: bool) -> Result<Explored, String> {
 /// Explores the families of the gate, or with `large` many more books.
 pub fn explore_all(large: bool, seed: u64) -> Result<(), String> {
     let times = if large { 40 } else { 1 };
-    let family = |n, checkpoints, largest| Family {
+    let family = |n, checkpoints, largest, in_flight| Family {
         n,
         checkpoints,
         largest,
+        in_flight,
     };
     let plan = [
-        (family(2, 3, 2), u64::MAX),
-        (family(2, 4, 3), 1000 * times),
-        (family(3, 2, 1), u64::MAX),
-        (family(3, 3, 1), 400 * times),
-        (family(3, 3, 2), 400 * times),
-        (family(4, 2, 1), 60 * times),
-        (family(4, 2, 2), 20 * times),
+        (family(2, 3, 2, 0), u64::MAX),
+        (family(2, 3, 1, 1), u64::MAX),
+        (family(2, 4, 3, 0), 1000 * times),
+        (family(2, 4, 3, 3), 1000 * times),
+        (family(3, 2, 1, 0), u64::MAX),
+        (family(3, 3, 1, 0), 400 * times),
+        (family(3, 3, 1, 1), 400 * times),
+        (family(3, 3, 2, 0), 400 * times),
+        (family(3, 3, 2, 2), 400 * times),
+        (family(4, 2, 1, 0), 60 * times),
+        (family(4, 2, 1, 1), 60 * times),
+        (family(4, 2, 2, 0), 20 * times),
+        (family(4, 2, 2, 2), 20 * times),
     ];
     let mut total = Explored::default();
     let families = plan.iter().map(|(family, most)| explore_family(family, *most, seed));

@@ -1,10 +1,11 @@
 //! The library, through its C interface, against an independent implementation: differential runs, the claims of
-//! demand 3 on random sessions, and every order of messages of small books.
+//! demand 3 on random sessions, those of document 02's requests, and every order of messages of small books.
 
 pub mod benches;
 pub mod book;
 pub mod books;
 pub mod call;
+pub mod chains;
 pub mod changed_states;
 pub mod claims;
 pub mod damaged_books;
@@ -24,6 +25,8 @@ pub mod made;
 pub mod measured_books;
 pub mod measured_journals;
 pub mod messages;
+pub mod move_claims;
+pub mod move_scenarios;
 pub mod other_tables;
 pub mod ours;
 pub mod pair_claims;

@@ -5,7 +5,7 @@ use crate::journals::{Journal, RECEIVED, SENT};
 use recovery_line::{BookBuilder, Count, Process, Refusal, Tables};
 
 /// The book that the builder makes of a book's checkpoints: the oldest of all processes come first, and of processes the last.
-/// Counters that are as in the checkpoint before are not named.
+/// Counters that are as in the checkpoint before, or zero in an oldest one, are not named.
 pub fn by_checkpoints(book: &Book) -> Result<Book, Refusal> {
     let mut builder = Tables::builder(book.n() as u64);
     let newest = book.newest().into_iter().max().unwrap_or(0);
@@ -19,13 +19,19 @@ pub fn by_checkpoints(book: &Book) -> Result<Book, Refusal> {
 /// Appends process j's checkpoint r.
 fn append(builder: &mut BookBuilder, book: &Book, j: usize, r: usize) {
     let mut newest = builder.checkpoint(Process::new(j as u64));
-    for p in (1..=book.n()).filter(|&p| r > 1 && p != j) {
+    for p in (1..=book.n()).filter(|&p| p != j) {
         let partner = Process::new(p as u64);
-        if book.sent_at(j, r, p) != book.sent_at(j, r - 1, p) {
-            newest = newest.sent_to(partner, Count::new(book.sent_at(j, r, p)));
+        let (sent, received) = (book.sent_at(j, r, p), book.received_at(j, r, p));
+        let before = if r > 1 {
+            (book.sent_at(j, r - 1, p), book.received_at(j, r - 1, p))
+        } else {
+            (0, 0)
+        };
+        if sent != before.0 {
+            newest = newest.sent_to(partner, Count::new(sent));
         }
-        if book.received_at(j, r, p) != book.received_at(j, r - 1, p) {
-            newest = newest.received_from(partner, Count::new(book.received_at(j, r, p)));
+        if received != before.1 {
+            newest = newest.received_from(partner, Count::new(received));
         }
     }
 }

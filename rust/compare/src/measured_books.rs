@@ -42,6 +42,26 @@ pub fn ring_with(n: usize, passed: usize) -> Book {
     ring(n, passed / n + 1, 1)
 }
 
+/// Messages that every oldest checkpoint of [`in_flight`] has on its way to each partner.
+const ON_THEIR_WAY: Counter = 500;
+
+/// A typical run after a move: the oldest checkpoints have sent what later ones received, and messages are on their way across
+/// the line too.
+pub fn in_flight(n: usize, each: usize) -> Book {
+    let mut book = typical(n, each);
+    for j in 1..=n {
+        for p in (1..=n).filter(|&p| p != j) {
+            for r in 1..=each {
+                *book.entry_mut(Table::Sent, j, r, p) += ON_THEIR_WAY;
+            }
+            for r in 2..=each {
+                *book.entry_mut(Table::Received, j, r, p) += ON_THEIR_WAY;
+            }
+        }
+    }
+    book
+}
+
 /// A run in which everybody talks to everybody: each checkpoint has received what the others had sent two checkpoints
 /// before, but for some of the last three, which have received more than that and fall.
 pub fn typical(n: usize, each: usize) -> Book {

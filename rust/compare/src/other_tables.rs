@@ -1,6 +1,7 @@
 //! Valid tables other than those that a state was made on: with a counter or a checkpoint changed, or of another number of
 //! processes.
 
+use crate::book::drop_rows;
 use crate::books::{any_book, small_book};
 use crate::layout::{session, CHECKPOINTS, LARGEST, PROCESSES, TABLE_ENTRIES};
 use crate::lent::{Guarded, Lent};
@@ -20,7 +21,8 @@ fn are_whole(lent: &Lent) -> bool {
         && lent.received.lent().len() == TABLE_ENTRIES
 }
 
-/// Changes tables so that they stay valid: either a counter of newest checkpoints grows, or a newest checkpoint goes.
+/// Changes tables so that they stay valid: either a counter of newest checkpoints grows, or a newest checkpoint goes. An oldest
+/// one stays, and of its counters only those sent grow.
 pub fn change_tables_validly(random: &mut Random, lent: &mut Lent) {
     if !are_whole(lent) {
         return;
@@ -28,17 +30,18 @@ pub fn change_tables_validly(random: &mut Random, lent: &mut Lent) {
     let shape = lent.shape.lent();
     let n = shape[0] as usize;
     let j = random.between(1, n);
-    if shape[j] < 2 {
+    if shape[j] == 0 {
         return;
     }
+    let is_oldest = shape[j] == 1;
     let newest = shape[1..=j].iter().sum::<u64>() as usize - 1;
-    if random.once_in(2) {
-        drop_rows(lent, newest, 1);
+    if !is_oldest && random.once_in(2) {
+        drop_checkpoints(lent, newest, 1);
         lent.shape.lent_mut()[j] -= 1;
         return;
     }
     let p = random.between(1, n);
-    let table = if random.once_in(2) {
+    let table = if is_oldest || random.once_in(2) {
         &mut lent.sent
     } else {
         &mut lent.received
@@ -50,12 +53,9 @@ pub fn change_tables_validly(random: &mut Random, lent: &mut Lent) {
 }
 
 /// Takes rows out of both tables.
-fn drop_rows(lent: &mut Lent, first: usize, count: usize) {
-    for table in [&mut lent.sent, &mut lent.received] {
-        let table = table.lent_mut();
-        table.copy_within((first + count) * PROCESSES.., first * PROCESSES);
-        table[TABLE_ENTRIES - count * PROCESSES..].fill(0);
-    }
+fn drop_checkpoints(lent: &mut Lent, first: usize, count: usize) {
+    drop_rows(lent.sent.lent_mut(), first, count);
+    drop_rows(lent.received.lent_mut(), first, count);
 }
 
 /// Hands a session to valid tables of another number of processes: these with one process fewer or more, or another
@@ -79,7 +79,7 @@ pub fn change_processes(random: &mut Random, lent: &mut Lent) {
 fn drop_last_process(lent: &mut Lent, n: usize) {
     let count = lent.shape.lent()[n] as usize;
     let first = lent.shape.lent()[1..n].iter().sum::<u64>() as usize;
-    drop_rows(lent, first, count);
+    drop_checkpoints(lent, first, count);
     for table in [&mut lent.sent, &mut lent.received] {
         for row in table.lent_mut().chunks_mut(PROCESSES) {
             row[n - 1] = 0;

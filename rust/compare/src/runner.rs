@@ -5,7 +5,7 @@ use crate::call::{Call, ANSWERS};
 use crate::lent::Lent;
 use crate::show::describe;
 use crate::tally::{Kind, Tally};
-use crate::{journal_claims, ours, pair_claims, theirs};
+use crate::{journal_claims, move_claims, ours, pair_claims, theirs};
 
 /// What the library answered to a case, and what it left.
 pub struct Outcome {
@@ -28,6 +28,8 @@ pub struct Runner {
     pub journals: journal_claims::Met,
     /// The sets and checkpoints that were tested, and of which their claims were asserted.
     pub pairs: pair_claims::Met,
+    /// The moves, and the lines of moved books, of which their claims were asserted.
+    pub moves: move_claims::Met,
     pub difference: Option<String>,
 }
 
@@ -44,6 +46,7 @@ impl Runner {
             claims: 0,
             journals: journal_claims::Met::default(),
             pairs: pair_claims::Met::default(),
+            moves: move_claims::Met::default(),
             difference: None,
         }
     }
@@ -80,7 +83,13 @@ impl Runner {
 
     /// What no case had and enough of them must have.
     pub fn missing(&self) -> Vec<String> {
-        [self.tally.missing(), self.journals.missing(), self.pairs.missing()].concat()
+        [
+            self.tally.missing(),
+            self.journals.missing(),
+            self.pairs.missing(),
+            self.moves.missing(),
+        ]
+        .concat()
     }
 
     /// Notes something that must hold of an outcome and does not; ends the scenario.

@@ -10,14 +10,14 @@ use crate::random::Random;
 use crate::runner::{book_of, Runner};
 use crate::tally::Kind;
 use crate::variations::varied;
-use crate::{journal_scenarios, line, machine_scenarios, made, session_scenarios, set_scenarios};
+use crate::{journal_scenarios, line, machine_scenarios, made, move_scenarios, session_scenarios, set_scenarios};
 
 /// Runs the scenario of a number.
 pub fn run(runner: &mut Runner, number: u64) {
     runner.scenario = number;
     let random = &mut Random::of_part(runner.seed, number);
     // A scenario that ends early says so in the runner.
-    let _ = match random.below(19) {
+    let _ = match random.below(20) {
         0 | 1 => books(runner, random),
         2 => tables(runner, random),
         3 => set_scenarios::sets(runner, random),
@@ -26,6 +26,7 @@ pub fn run(runner: &mut Runner, number: u64) {
         8..=11 => session_scenarios::search(runner, random),
         12 | 13 => journal_scenarios::journals(runner, random),
         14 => set_scenarios::columns(runner, random),
+        15 => move_scenarios::chain(runner, random),
         _ => session_scenarios::forged(runner, random),
     };
 }
@@ -104,7 +105,7 @@ fn tables(runner: &mut Runner, random: &mut Random) -> Option<()> {
             )?;
         }
         if call == Call::Move {
-            moved(runner, random, &outcome.left)?;
+            moved(runner, random, &book, &outcome.left)?;
         }
         for _ in 0..2 {
             let (kind, lent) = varied(random, call, &lent);
@@ -150,11 +151,9 @@ fn lent_for(random: &mut Random, call: Call, book: &Book) -> Lent {
     lent
 }
 
-/// Moved tables are tables: they pass the check, and moving them once more is a case too.
-fn moved(runner: &mut Runner, random: &mut Random, left: &Lent) -> Option<()> {
-    let mut lent = lent_tables(&book_of(left));
-    let checked = runner.case(Kind::ValidTables, Call::Check, lent.clone())?;
-    runner.demand(checked.answer == 0, "moved tables pass the check", left)?;
+/// Moved tables are tables, and moving them once more is a case too.
+fn moved(runner: &mut Runner, random: &mut Random, book: &Book, left: &Lent) -> Option<()> {
+    let mut lent = lent_tables(&move_scenarios::after_move(runner, book, left)?);
     lent.result = Guarded::fresh(ORDER_WORDS);
     lent.names = [random.between(1, 3) as u64, 0, 0];
     runner.case(Kind::ValidTables, Call::Move, lent)?;

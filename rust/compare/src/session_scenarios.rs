@@ -71,6 +71,7 @@ fn search_turns(runner: &mut Runner, random: &mut Random, book: &Book, me: usize
         Err(what) => return runner.claim(Err(what), &started),
     };
     runner.claimed_sessions += 1;
+    runner.moves.add_session(book);
     runner.claim(claims.hold_after(started.state.lent(), 0), &started)?;
     let order = any_order(random, book.n(), me);
     let enough_room = started.out.lent().len() >= strand_bytes(book.n());

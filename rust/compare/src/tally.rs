@@ -10,6 +10,7 @@ pub enum Kind {
     ValidJournal,
     DamagedJournal,
     ValidTables,
+    Chain,
     DamagedTables,
     TableLengths,
     WordLengths,
@@ -32,12 +33,13 @@ pub enum Kind {
 }
 
 /// All kinds, with what the table calls them.
-const KINDS: [(Kind, &str); 24] = [
+const KINDS: [(Kind, &str); 25] = [
     (Kind::ValidBook, "valid books read"),
     (Kind::DamagedBook, "damaged books read"),
     (Kind::ValidJournal, "valid journals read"),
     (Kind::DamagedJournal, "damaged journals read"),
     (Kind::ValidTables, "valid tables"),
+    (Kind::Chain, "books moved, and with later checkpoints"),
     (Kind::DamagedTables, "damaged tables"),
     (Kind::TableLengths, "tables of wrong length"),
     (Kind::WordLengths, "words or columns of wrong length"),

@@ -1,7 +1,7 @@
 //! What the generators promise, seen by the independent implementation alone.
 
 use compare::book::{Book, Table};
-use compare::books::{any_book, small_book};
+use compare::books::{any_book, far_book, small_book};
 use compare::call::Call;
 use compare::claims::waiting;
 use compare::forged::ForgedSession;
@@ -10,7 +10,7 @@ use compare::journals::{any_journal, long_journal, Journal};
 use compare::layout::{Counter, NOT_KNOWN};
 use compare::lent::{Guarded, Lent};
 use compare::line::{is_line_of_all_sets, line, passed};
-use compare::measured_books::last_pair_at_fault;
+use compare::measured_books::{in_flight, last_pair_at_fault};
 use compare::measured_journals::{in_any_order, in_turn};
 use compare::pair_claims::{faults, is_first, is_permitted_by_mark, offenders};
 use compare::random::Random;
@@ -20,11 +20,25 @@ use compare::theirs;
 #[test]
 fn books_are_valid() {
     let random = &mut Random::new(1);
+    let mut in_flight = 0;
     for _ in 0..2000 {
         let book = any_book(random);
         assert_eq!(theirs::run(Call::Check, &mut lent_tables(&book)), 0);
         assert_eq!(theirs::run(Call::Read, &mut Lent::to_read(&book.bytes())), 0);
+        in_flight += u32::from(book.is_in_flight());
     }
+    assert!(in_flight > 600, "{in_flight} of 2000");
+}
+
+#[test]
+fn far_books_fall_far_with_messages_in_flight_too() {
+    let random = &mut Random::new(5);
+    let mut fallen = 0;
+    for _ in 0..200 {
+        let book = far_book(random);
+        fallen += u32::from(book.is_in_flight() && 2 * passed(&book, &line(&book)) > book.checkpoints());
+    }
+    assert!(fallen > 10, "{fallen} of 200");
 }
 
 #[test]
@@ -141,6 +155,14 @@ fn only_the_lowest_partner_is_first() {
     assert!(is_permitted_by_mark(&unsent(), 2, 2, &[mark, 0, 1]));
     assert!(!is_permitted_by_mark(&unsent(), 2, 2, &[mark, 0, 0]));
     assert!(!is_permitted_by_mark(&unsent(), 2, 2, &[5, mark, 1]));
+}
+
+#[test]
+fn the_measured_book_has_messages_on_their_way() {
+    let book = in_flight(16, 16);
+    assert_eq!(theirs::run(Call::Check, &mut lent_tables(&book)), 0);
+    assert_eq!((book.checkpoints(), passed(&book, &line(&book))), (256, 48));
+    assert!(book.is_in_flight());
 }
 
 #[test]

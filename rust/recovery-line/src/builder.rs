@@ -14,8 +14,9 @@ type Row = [u64; RECOVERY_LINE_PROCESSES];
 /// of different processes in any. A counter that is not named stays what it was at the process's checkpoint before, and is zero
 /// at the oldest.
 ///
-/// Messages are counted from the present line, which the oldest checkpoints are: there every counter is zero, as question 7 asks.
-/// Who counts from the start of the program takes the oldest checkpoint's counters off those of each.
+/// Messages are counted from the present line, which is of the oldest checkpoints: these have received nothing, as question 7
+/// asks, and have sent what was on its way when the line became theirs. Who counts from the start of the program takes off, at
+/// both ends of each channel, what the receiver's oldest checkpoint had received.
 ///
 /// ```
 /// use recovery_line::{Count, Process, Tables};
@@ -113,8 +114,8 @@ impl BookBuilder {
     }
 
     /// Makes the bytes of the book, and reads them as [`Tables::read`] does: of a process without a checkpoint question 5
-    /// refuses it, of a counter that is too large 3 or 6, of one above zero in an oldest checkpoint 7, and of one lower than in
-    /// the checkpoint before 8.
+    /// refuses it, of a counter that is too large 3 or 6, of a received one above zero in an oldest checkpoint 7, and of one
+    /// lower than in the checkpoint before 8.
     ///
     /// What has no place in a book is asked after that: a counter above zero for a partner that is absent, or the process
     /// itself, is refused by 9, as it would be in tables, and a checkpoint of an absent process by 10.
@@ -157,8 +158,8 @@ fn present(n: u64) -> impl Iterator<Item = Process> {
 }
 
 impl NewCheckpoint<'_> {
-    /// At this checkpoint its process had sent so many messages to a partner, counted from the present line: from its oldest
-    /// checkpoint, where question 7 asks for zero.
+    /// At this checkpoint its process had sent so many messages to a partner, counted from the present line: but for those that
+    /// the partner's oldest checkpoint had received.
     pub fn sent_to(self, partner: Process, count: Count) -> Self {
         match self.place_of(partner) {
             Some(place) => self.counters.sent[place] = count.number(),
@@ -167,7 +168,8 @@ impl NewCheckpoint<'_> {
         self
     }
 
-    /// At this checkpoint its process had received so many messages from a partner, counted as by [`NewCheckpoint::sent_to`].
+    /// At this checkpoint its process had received so many messages from a partner, counted from the present line: but for those
+    /// that its own oldest checkpoint had received, of which question 7 asks that none are counted.
     pub fn received_from(self, partner: Process, count: Count) -> Self {
         match self.place_of(partner) {
             Some(place) => self.counters.received[place] = count.number(),

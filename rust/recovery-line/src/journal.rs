@@ -8,10 +8,11 @@ use crate::tables::Tables;
 
 /// What the processes do, written down event by event, in the order in which it happens.
 ///
-/// Checkpoint 1 of every process is there from the start. Every event is written as it is given: one that cannot be (of an
-/// absent process, of one with itself, or a receipt of what was not sent) is refused when the journal is read, by
-/// [`Journal::tables`]. A journal has at most [`RECOVERY_LINE_JOURNAL_BYTES`] bytes, 65,536, which is some 21,800 events of
-/// messages: a longer one is refused by question 1, though that speaks of book bytes.
+/// Checkpoint 1 of every process is there from the start, and has sent and received nothing: a journal cannot go on from a moved
+/// book. Every event is written as it is given: one that cannot be (of an absent process, of one with itself, or a receipt of
+/// what was not sent) is refused when the journal is read, by [`Journal::tables`]. A journal has at most
+/// [`RECOVERY_LINE_JOURNAL_BYTES`] bytes, 65,536, which is some 21,800 events of messages: a longer one is refused by question 1,
+/// though that speaks of book bytes.
 ///
 /// [`RECOVERY_LINE_JOURNAL_BYTES`]: crate::sys::RECOVERY_LINE_JOURNAL_BYTES
 ///

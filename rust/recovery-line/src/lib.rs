@@ -110,10 +110,16 @@
 //! - [`Tables::find_line`], [`Tables::test_set`], [`Tables::restart_order`], [`Tables::move_line`], [`Tables::search`] and
 //!   [`Session`] need the whole book. Tables with one worker's own rows alone are accepted too, and say that the others have
 //!   done nothing: the answer is for that book, and goes back too far.
-//! - When all have ended, every worker goes by its machine's candidate. With [`Purpose::Restart`] and
-//!   [`Purpose::AdvanceAndRestart`] it goes back to it and begins anew, with one checkpoint of zeros. With [`Purpose::Advance`]
-//!   the candidate becomes its oldest: who has the whole book moves it ([`Tables::move_line`]), and a worker that has its own
-//!   rows alone drops those before the candidate's and takes the candidate's counters off the others.
+//! - When all have ended, every worker goes by its machine's candidate, which becomes its oldest checkpoint: those before it go,
+//!   and with [`Purpose::Restart`] and [`Purpose::AdvanceAndRestart`] the worker goes back to it, and those after it go too.
+//! - With [`Purpose::Advance`] and [`Purpose::AdvanceAndRestart`] everything is counted from the new line: who has the whole book
+//!   moves it ([`Tables::move_line`]). A worker that has its own rows alone takes off what it has received from each partner, in
+//!   the rows that it keeps and in its running counters, what its candidate had received from that one, and off what it has sent
+//!   to each partner what the partner's candidate had received from it. Only the partner can tell that: let each worker send this
+//!   number to each other one. With [`Purpose::Restart`] nothing comes off.
+//! - So the oldest checkpoint has received nothing, and what it has sent is what crosses the line: it is on its way, and after a
+//!   restart it is the program's to send again. The running counters go on from that checkpoint, which counts it already. A new
+//!   [`Journal`] begins with zeros: who keeps one logs each repetition as sent.
 //!
 #![doc = include_str!("../README.md")]
 #![deny(unsafe_code, missing_docs)]

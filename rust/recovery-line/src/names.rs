@@ -79,7 +79,7 @@ impl Checkpoint {
     pub const OLDEST: Checkpoint = Checkpoint(1);
 }
 
-/// A number of messages that a checkpoint had sent or received.
+/// A number of messages that a checkpoint had sent or received, counted from the present line.
 #[derive(Clone, Copy, Debug, PartialEq, Eq, PartialOrd, Ord, Hash)]
 pub struct Count(u64);
 number!(
@@ -104,11 +104,13 @@ impl Count {
 /// What a search, a restart order or a move is for.
 #[derive(Clone, Copy, Debug, PartialEq, Eq, Hash)]
 pub enum Purpose {
-    /// The line's checkpoints become the oldest: older ones are dropped, newer ones are kept, and nobody restarts.
+    /// The line's checkpoints become the oldest: older ones are dropped, newer ones are kept, and nobody restarts. Counters are
+    /// then counted from the new line ([`Tables::move_line`](crate::Tables::move_line)).
     Advance,
-    /// No search: everybody goes back to checkpoint 1, and newer ones are dropped.
+    /// No search: everybody goes back to checkpoint 1, and newer ones are dropped. Counters stay.
     Restart,
-    /// Both: only the line's checkpoints are kept, and everybody restarts from them.
+    /// Both: only the line's checkpoints are kept, with what crosses the line in their sent counters, and everybody restarts from
+    /// them.
     AdvanceAndRestart,
 }
 

@@ -56,7 +56,7 @@ impl Refusal {
             4 => "Is n from 1 to 16?",
             5 => "Is the count at least 1 and the sum so far at most 256?",
             6 => "Is the counter other than 4,294,967,295?",
-            7 => "Is it zero, in an oldest checkpoint?",
+            7 => "Of a received counter: is it zero, in an oldest checkpoint?",
             8 => "Is it no lower than the same counter one checkpoint before?",
             9 => "Does nothing follow, and in tables, is everything unused zero?",
             10 => "Is each process named from 1 to n (a participant: other than the initiator)?",

@@ -2,7 +2,7 @@
 //! The module [`raw`](crate::raw) has a safe function for each of these.
 
 /// The version of this interface.
-pub const RECOVERY_LINE_VERSION: u32 = 3;
+pub const RECOVERY_LINE_VERSION: u32 = 4;
 
 /// The most processes.
 pub const RECOVERY_LINE_PROCESSES: usize = 16;

@@ -246,7 +246,25 @@ impl Tables {
     /// Moves the line in these tables, and gives the restart order, whose checkpoints are numbered as before the move;
     /// the whole book is needed ([Between machines](crate#between-machines)).
     ///
+    /// On the channel from one process to another, what the receiver's line checkpoint had received comes off at both ends: off
+    /// what was sent, and off what was received. So the oldest checkpoints have received nothing then, and have sent what crosses
+    /// the line. With [`Purpose::Restart`], by which the line stays, nothing comes off.
+    ///
     /// Refused by: the tables' questions.
+    ///
+    /// ```
+    /// use recovery_line::{Checkpoint, Count, Process, Purpose, Tables};
+    ///
+    /// # fn main() -> Result<(), recovery_line::Refusal> {
+    /// // Process 2 has sent a message before its newest checkpoint, and process 1 has not received it yet.
+    /// let mut tables = Tables::read(&[2, 1, 0, 0, 2, 0, 0, 1, 0])?;
+    /// let (one, two) = (Process::new(1), Process::new(2));
+    /// let order = tables.move_line(Purpose::Advance)?;
+    /// assert_eq!(order.of(two).map(|restart| restart.from), Some(Checkpoint::new(2)));
+    /// assert_eq!(tables.sent_to(two, Checkpoint::OLDEST, one), Some(Count::new(1)));
+    /// # Ok(())
+    /// # }
+    /// ```
     pub fn move_line(&mut self, purpose: Purpose) -> Result<Order, Refusal> {
         let mut order = [0; RECOVERY_LINE_ORDER_WORDS];
         raw::move_line(

@@ -87,6 +87,19 @@ fn the_questions_of_a_book_refuse() {
     assert_eq!(question(&without_second), 5);
 }
 
+/// An oldest checkpoint has sent what is on its way, and its process's later ones count from there.
+#[test]
+fn a_book_begins_with_messages_on_their_way() {
+    let mut book = Tables::builder(2);
+    book.checkpoint(ONE);
+    book.checkpoint(TWO).sent_to(ONE, Count::new(1));
+    book.checkpoint(ONE).received_from(TWO, Count::new(1));
+    book.checkpoint(TWO);
+    let tables = book.build().unwrap();
+    assert_eq!(tables.write().unwrap(), [2, 2, 0, 0, 0, 1, 2, 1, 0, 1, 0]);
+    assert_eq!(tables.find_line().unwrap().set, tables.newest());
+}
+
 #[test]
 fn a_book_has_so_many_checkpoints() {
     let mut book = Tables::builder(1);

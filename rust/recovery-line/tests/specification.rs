@@ -89,6 +89,38 @@ fn example_6_moved() {
     assert_eq!(tables.find_line().unwrap().set, set(&[1, 1, 1]));
 }
 
+/// The book that a move leaves.
+fn moved(hex: &str, purpose: Purpose) -> Vec<u8> {
+    let mut tables = tables(hex);
+    assert_eq!(tables.restart_order(purpose), tables.move_line(purpose));
+    tables.write().unwrap()
+}
+
+/// What processes 2 and 3 sent to 1 before the line stays in their sent counters: 1 receives it after the line.
+#[test]
+fn example_1_moved() {
+    let advanced = "03 02 00 00 00 00 00 00 04 05 01 03 00 00 00 01 07 00 00 00";
+    let restarted = "03 01 00 00 00 00 01 03 00 00 00 01 07 00 00 00";
+    assert_eq!(moved(EXAMPLE_1, Purpose::Advance), bytes(advanced));
+    assert_eq!(moved(EXAMPLE_1, Purpose::AdvanceAndRestart), bytes(restarted));
+    assert_eq!(moved(advanced, Purpose::Advance), bytes(advanced));
+    assert_eq!(moved(advanced, Purpose::Restart), bytes(restarted));
+    let first = "03 01 00 00 00 00 01 00 00 00 00 01 00 00 00 00";
+    assert_eq!(moved(EXAMPLE_1, Purpose::Restart), bytes(first));
+}
+
+/// Process 1 receives after the move what 2 sent before it: its next checkpoint is on the line, moved or not.
+#[test]
+fn a_message_crosses_the_line() {
+    assert_eq!(
+        moved("02 01 00 00 02 00 00 01 00", Purpose::Advance),
+        bytes("02 01 00 00 01 01 00")
+    );
+    let line = |hex: &str| tables(hex).find_line().unwrap().set;
+    assert_eq!(line("02 02 00 00 00 01 02 00 00 01 00"), set(&[2, 2]));
+    assert_eq!(line("02 02 00 00 00 01 01 01 00"), set(&[2, 1]));
+}
+
 #[test]
 fn a_bare_restart_keeps_the_oldest() {
     let mut tables = tables(EXAMPLE_6);
@@ -138,9 +170,20 @@ fn bounds() {
 
 #[test]
 fn damaged_counters() {
-    assert_eq!(question("02 01 01 00 01 00 00"), 7);
+    assert_eq!(question("02 01 00 01 01 00 00"), 7);
     assert_eq!(question("02 03 00 00 05 00 04 00 01 00 00"), 8);
     assert_eq!(question("02 01 00 00 01 00 00 00"), 9);
+}
+
+/// An oldest checkpoint may have sent what is on its way; it meets 6, and the next one meets 8.
+#[test]
+fn oldest_sent_counters() {
+    for book in ["02 01 01 00 01 00 00", "02 02 05 00 05 00 01 FE FF FF FF 0F 00"] {
+        assert_eq!(tables(book).write().unwrap(), bytes(book));
+    }
+    assert_eq!(question("02 01 FF FF FF FF 0F 00 01 00 00"), 6);
+    assert_eq!(question("02 01 01 01 01 00 00"), 7);
+    assert_eq!(question("02 02 05 00 04 00 01 00 00"), 8);
 }
 
 #[test]

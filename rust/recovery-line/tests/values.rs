@@ -17,10 +17,10 @@ fn tables() -> Tables {
 
 #[test]
 fn a_refusal_says_its_question() {
-    let refusal = Tables::read(&[2, 1, 1, 0, 1, 0, 0]).unwrap_err();
+    let refusal = Tables::read(&[2, 1, 0, 1, 1, 0, 0]).unwrap_err();
     assert_eq!(
         refusal.to_string(),
-        "refused by question 7: Is it zero, in an oldest checkpoint?"
+        "refused by question 7: Of a received counter: is it zero, in an oldest checkpoint?"
     );
     assert_eq!(
         Refusal::WRONG_LENGTH.to_string(),

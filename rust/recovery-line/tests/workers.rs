@@ -21,17 +21,18 @@ const EXAMPLES: [&[u8]; 2] = [
     ],
 ];
 
-/// A worker's own rows of a book from a checkpoint on, with that one's counters taken off, and zeros for everybody else.
-fn own_from(book: &Tables, me: Process, oldest: Checkpoint) -> Tables {
-    let since = |at: Option<Count>, from: Option<Count>| Count::new(at.unwrap().number() - from.unwrap().number());
+/// A worker's own rows of a book from its candidate on, and zeros for everybody else. What the candidate had received from a
+/// partner comes off what was received from it, and off what was sent to it what that partner tells.
+fn own_from(book: &Tables, me: Process, candidate: Checkpoint, told: impl Fn(Process) -> Option<Count>) -> Tables {
+    let less = |at: Option<Count>, off: Option<Count>| Count::new(at.unwrap().number() - off.unwrap().number());
     let mut own = Tables::builder(book.processes());
-    for checkpoint in (oldest.number()..=book.checkpoints(me)).map(Checkpoint::new) {
+    for checkpoint in (candidate.number()..=book.checkpoints(me)).map(Checkpoint::new) {
         let partners = Process::all(book.processes()).filter(|partner| *partner != me);
         partners.fold(own.checkpoint(me), |copy, to| {
-            let sent = since(book.sent_to(me, checkpoint, to), book.sent_to(me, oldest, to));
-            let received = since(
+            let sent = less(book.sent_to(me, checkpoint, to), told(to));
+            let received = less(
                 book.received_from(me, checkpoint, to),
-                book.received_from(me, oldest, to),
+                book.received_from(me, candidate, to),
             );
             copy.sent_to(to, sent).received_from(to, received)
         });
@@ -40,7 +41,7 @@ fn own_from(book: &Tables, me: Process, oldest: Checkpoint) -> Tables {
 }
 
 fn own(book: &Tables, me: Process) -> Tables {
-    own_from(book, me, Checkpoint::OLDEST)
+    own_from(book, me, Checkpoint::OLDEST, |_| Some(Count::new(0)))
 }
 
 /// A search among workers who each know their own rows alone; a participant has no machine before its invitation.
@@ -134,18 +135,37 @@ fn own_rows_alone_go_back_too_far() {
     assert_eq!(restart.map(|restart| restart.from), Some(Checkpoint::OLDEST));
 }
 
+/// Two processes with line 2 2: of the two messages that 1 sent before it, the first before its oldest checkpoint, 2 has received
+/// one. Process 1's newest has received what 2 has not sent.
+const ONE_OF_TWO: [u8; 13] = [2, 3, 1, 0, 2, 0, 3, 1, 2, 0, 0, 0, 1];
+
 /// What a worker with its own rows alone does after an advance comes to the same as the move of the whole book.
 #[test]
-fn own_rows_are_moved_by_the_candidate() {
-    for bytes in EXAMPLES {
+fn own_rows_are_moved_by_the_candidates() {
+    for bytes in EXAMPLES.into_iter().chain([&ONE_OF_TWO[..]]) {
         let book = Tables::read(bytes).unwrap();
         let mut moved = book.clone();
-        for restart in moved.move_line(Purpose::Advance).unwrap() {
+        let order = moved.move_line(Purpose::Advance).unwrap();
+        for restart in order {
             let me = restart.process;
             assert_eq!(restart.after, 0);
-            assert_eq!(own_from(&book, me, restart.from), own(&moved, me));
+            let candidate = |of: Process| order.of(of).unwrap().from;
+            let told = |partner: Process| book.received_from(partner, candidate(partner), me);
+            assert_eq!(own_from(&book, me, restart.from, told), own(&moved, me));
         }
     }
+}
+
+/// What its candidate had sent is not what comes off: some of it may be on its way.
+#[test]
+fn a_worker_does_not_know_what_was_received() {
+    let book = Tables::read(&ONE_OF_TWO).unwrap();
+    let mut moved = book.clone();
+    let candidate = moved.move_line(Purpose::Advance).unwrap().of(ONE).unwrap().from;
+    assert_eq!(candidate, Checkpoint::new(2));
+    assert_eq!(moved.sent_to(ONE, Checkpoint::OLDEST, TWO), Some(Count::new(1)));
+    let by_itself = own_from(&book, ONE, candidate, |to| book.sent_to(ONE, candidate, to));
+    assert_ne!(by_itself, own(&moved, ONE));
 }
 
 #[test]

@@ -84,8 +84,12 @@ fn checkpoint_count(count: u64, before: usize) -> Result<usize, u32> {
     }
 }
 
-/// Questions 6 to 8 of one counter; `before` is the same counter one checkpoint before, `None` in
-/// an oldest checkpoint.
+/// What goes before an oldest checkpoint's sent counters: "question 7 applies to received counters
+/// only" (E4), and 8 has nothing before them; none is lower than zero.
+const ZEROS: Row = [0; PROCESSES];
+
+/// Questions 6 to 8 of one counter; `before` is the same counter one checkpoint before, `None` if it
+/// is received and of an oldest checkpoint.
 fn counter_question(counter: Counter, before: Option<Counter>) -> Result<(), u32> {
     if counter == MARK {
         return Err(6);
@@ -129,23 +133,25 @@ impl<'a> Book<'a> {
     /// Whether 6 to 8 pass and "unused rows and columns, and a process's own column are zero" (9),
     /// which a few sweeps over whole rows tell.
     fn is_sound(&self, used_rows: usize) -> bool {
-        [self.sent, self.received].into_iter().all(|table| {
-            let used = (0..self.n).all(|own| self.rises_from_zero(own, &table[self.rows_of(own)]));
-            used && all_zero(table[used_rows..].as_flattened())
-        })
+        let received_nothing = (0..self.n).all(|own| all_zero(&self.received[self.first_rows[own]]));
+        received_nothing
+            && [self.sent, self.received].into_iter().all(|table| {
+                let used = (0..self.n).all(|own| self.never_falls(own, &table[self.rows_of(own)]));
+                used && all_zero(table[used_rows..].as_flattened())
+            })
     }
 
-    /// Whether the rows of one process begin with zeros and no column falls. The newest row then has
-    /// the highest counters: no mark, and zeros where nothing is used.
-    fn rises_from_zero(&self, own: usize, rows: &[Row]) -> bool {
-        let (oldest, newest) = (&rows[0], &rows[rows.len() - 1]);
+    /// Whether no column falls along the rows of one process. The newest row then has the highest
+    /// counters: no mark, and zeros where nothing is used.
+    fn never_falls(&self, own: usize, rows: &[Row]) -> bool {
+        let newest = &rows[rows.len() - 1];
         let (earlier, later) = (rows.as_flattened(), rows[1..].as_flattened());
         let falls = later
             .iter()
             .zip(earlier)
             .fold(false, |any, (next, last)| any | (next < last));
         let unused_is_zero = newest[own] == 0 && all_zero(&newest[self.n..]);
-        all_zero(oldest) && !falls && unused_is_zero && !newest.contains(&MARK)
+        !falls && unused_is_zero && !newest.contains(&MARK)
     }
 
     /// Questions 6 to 8 "in book order": process by process, oldest checkpoint first, the sent
@@ -154,10 +160,10 @@ impl<'a> Book<'a> {
         for own in 0..self.n {
             for index in self.rows_of(own) {
                 let oldest = index == self.first_rows[own];
-                for table in [self.sent, self.received] {
+                for (table, before_oldest) in [(self.sent, Some(&ZEROS)), (self.received, None)] {
+                    let before = if oldest { before_oldest } else { Some(&table[index - 1]) };
                     for partner in others(self.n, own) {
-                        let before = if oldest { None } else { Some(table[index - 1][partner]) };
-                        counter_question(table[index][partner], before)?;
+                        counter_question(table[index][partner], before.map(|row| row[partner]))?;
                     }
                 }
             }
@@ -276,9 +282,9 @@ fn read_along(bytes: &[u8], sent: &mut [Row], received: &mut [Row]) -> Result<Sh
         *count = u64::from(varint::read(bytes, &mut at).ok_or(3u32)?);
         let end = first + checkpoint_count(*count, first)?;
         for index in first..end {
-            for table in [&mut *sent, &mut *received] {
+            for (table, before_oldest) in [(&mut *sent, Some(&ZEROS)), (&mut *received, None)] {
                 let (earlier, later) = table.split_at_mut(index);
-                let before = if index == first { None } else { earlier.last() };
+                let before = if index == first { before_oldest } else { earlier.last() };
                 read_row(bytes, &mut at, &mut later[0], before, others(n, own))?;
             }
         }

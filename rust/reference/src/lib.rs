@@ -1,5 +1,5 @@
-//! The recovery line of checkpointing processes: document 01, and of document 02 the journal (E1) and
-//! the first pair at fault (E3), in plain Rust.
+//! The recovery line of checkpointing processes: document 01, and of document 02 the journal (E1), the
+//! first pair at fault (E3) and messages on their way when the line moves (E4), in plain Rust.
 //!
 //! Each call puts the questions of 01 and 02 that concern it, in turn. A refusal is `Err` with the number
 //! of the first question that fails, and changes nothing lent or owned. No call relies on an

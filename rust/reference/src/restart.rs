@@ -1,6 +1,6 @@
 //! Restart orders and the move (K 5.4).
 
-use crate::book::{Book, Counter, Shape, PROCESSES};
+use crate::book::{Book, Counter, Row, Shape, PROCESSES};
 use crate::line::line_of;
 use crate::machine::purpose_question;
 use crate::message::RESTART_ONLY;
@@ -54,30 +54,46 @@ pub fn move_line(
     received: &mut [Counter],
     purpose: u64,
 ) -> Result<Order, u32> {
-    let order = restart_order(shape, sent, received, purpose)?;
-    keep_only(shape, &order, sent);
-    keep_only(shape, &order, received);
+    let book = Book::accepted(shape, sent, received)?;
+    purpose_question(purpose)?;
+    let order = order_of(&book, purpose);
+    let (off_sent, off_received) = taken_off(&book, &order);
+    keep_only(shape, &order, &off_sent, sent);
+    keep_only(shape, &order, &off_received, received);
     for process in 0..shape.n as usize {
         shape.counts[process] -= order.before[process] + order.after[process];
     }
     Ok(order)
 }
 
-/// Keeps in one table the rows that do not go, one after another from the first row on, "each kept
-/// checkpoint's counters" lowered "by those that its own process's line checkpoint held". No kept
-/// row is written before its place is read: rows only go.
-fn keep_only(shape: &Shape, order: &Order, table: &mut [Counter]) {
+/// What comes off each process's sent and received counters. "A move takes off, at both ends of a
+/// channel, what the receiver's line checkpoint had received" (E4); with purpose 2 that is checkpoint
+/// 1, which has received nothing. The line is consistent, so its checkpoints sent at least that.
+fn taken_off(book: &Book, order: &Order) -> ([Row; PROCESSES], [Row; PROCESSES]) {
+    let mut of_sender = [[0; PROCESSES]; PROCESSES];
+    let mut of_receiver = [[0; PROCESSES]; PROCESSES];
+    for receiver in 0..book.n {
+        of_receiver[receiver] = *book.received(receiver, order.from[receiver] as usize);
+        for sender in 0..book.n {
+            of_sender[sender][receiver] = of_receiver[receiver][sender];
+        }
+    }
+    (of_sender, of_receiver)
+}
+
+/// Keeps in one table the rows that do not go, one after another from the first row on, less what
+/// comes off them. No kept row is written before its place is read: rows only go.
+fn keep_only(shape: &Shape, order: &Order, off: &[Row; PROCESSES], table: &mut [Counter]) {
     let (rows, _) = table.as_chunks_mut::<PROCESSES>();
     let mut read_from = 0;
     let mut write_to = 0;
-    for process in 0..shape.n as usize {
+    for (process, off) in off.iter().enumerate().take(shape.n as usize) {
         let end = read_from + shape.counts[process] as usize;
         let first_kept = read_from + order.before[process] as usize;
         let last_kept = end - order.after[process] as usize;
-        let base = rows[first_kept];
         for kept in first_kept..last_kept {
             let row = rows[kept];
-            rows[write_to] = std::array::from_fn(|partner| row[partner] - base[partner]);
+            rows[write_to] = std::array::from_fn(|partner| row[partner] - off[partner]);
             write_to += 1;
         }
         read_from = end;

@@ -139,6 +139,41 @@ fn example_6_of_k_restarted() {
     );
 }
 
+/// Moves a book: the book after it, and for each process the checkpoint restarted from, and how many go before and after it.
+fn moved(hex: &str, purpose: u64) -> (Vec<u8>, Vec<(u64, u64, u64)>) {
+    let mut t = read_hex(hex).unwrap();
+    let order = move_line(&mut t.shape, &mut t.sent, &mut t.received, purpose).unwrap();
+    let mut book = vec![0; BOOK_BYTES];
+    let length = write(&t.shape, &t.sent, &t.received, &mut book).unwrap();
+    book.truncate(length);
+    let of_process = |j: usize| (order.from[j], order.before[j], order.after[j]);
+    (book, (0..t.shape.n as usize).map(of_process).collect())
+}
+
+/// What 2 and 3 sent to 1 before the line is received after it: it stays in their sent counters (E4).
+#[test]
+fn example_1_of_k_moved() {
+    let advanced = "03 02 00 00 00 00 00 00 04 05 01 03 00 00 00 01 07 00 00 00";
+    assert_eq!(moved(K1, 1), (bytes(advanced), vec![(1, 0, 0), (2, 1, 0), (2, 1, 0)]));
+    let first = "03 01 00 00 00 00 01 00 00 00 00 01 00 00 00 00";
+    assert_eq!(moved(K1, 2), (bytes(first), vec![(1, 0, 1); 3]));
+    let restarted = "03 01 00 00 00 00 01 03 00 00 00 01 07 00 00 00";
+    assert_eq!(moved(K1, 3), (bytes(restarted), vec![(1, 0, 1), (2, 1, 0), (2, 1, 0)]));
+    // With 2 nothing comes off, and what is on its way stays.
+    assert_eq!(moved(advanced, 2).0, bytes(restarted));
+}
+
+/// The smallest book in which a message crosses the line: 1 receives it after the move, and its checkpoint is on the line.
+#[test]
+fn a_message_on_its_way() {
+    let book = "02 01 00 00 02 00 00 01 00";
+    let advanced = bytes("02 01 00 00 01 01 00");
+    assert_eq!(moved(book, 1), (advanced.clone(), vec![(1, 0, 0), (2, 1, 0)]));
+    assert_eq!(moved(book, 3).0, advanced);
+    assert_search("02 02 00 00 00 01 02 00 00 01 00", 1, &[2, 2], 0, 1, 3);
+    assert_search("02 02 00 00 00 01 01 01 00", 1, &[2, 1], 0, 1, 3);
+}
+
 /// Steps 9 to 15 of the example (step 11 sends S3,2,1): each turn, and what it leaves waiting.
 #[test]
 fn example_6_of_k_by_messages() {
@@ -220,8 +255,30 @@ fn bounds_of_a_book() {
 
 #[test]
 fn counters_of_a_book() {
-    assert_refused("02 01 01 00 01 00 00", 7);
+    assert_refused("02 01 00 01 01 00 00", 7);
+    assert_refused("02 01 00 00 01 00 01", 7);
+    assert_refused("02 01 00 ff ff ff ff 0f 01 00 00", 6);
     assert_refused("02 03 00 00 02 00 01 00 01 00 00", 8);
     assert_refused("02 01 00 00 01 00 00 80", 9);
     assert_refused("02 01 00 00 01 00", 3);
+}
+
+/// "An oldest checkpoint may thus have sent counters above zero" (E4); they still meet 6, and later ones 8.
+#[test]
+fn oldest_checkpoints_have_sent() {
+    assert_search("02 01 01 00 01 00 00", 1, &[1, 1], 0, 1, 3);
+    assert_search("02 01 fe ff ff ff 0f 00 01 7f 00", 1, &[1, 1], 0, 1, 3);
+    assert_refused("02 01 ff ff ff ff 0f 00 01 00 00", 6);
+    assert_refused("02 01 01 01 01 00 00", 7);
+    assert_refused("02 02 05 00 04 00 01 00 00", 8);
+    // 2's oldest has sent 3 less than 1's newest, whose row stands before its own.
+    let book = "03 02 00 00 00 00 00 05 00 00 01 00 02 00 00 01 00 00 00 00";
+    let mut t = read_hex(book).unwrap();
+    assert_eq!(check(&t.shape, &t.sent, &t.received), Ok(()));
+    t.sent[ENTRIES - 1] = 1;
+    assert_eq!(check(&t.shape, &t.sent, &t.received), Err(9));
+    t.received[2 * PROCESSES + 2] = 1;
+    assert_eq!(check(&t.shape, &t.sent, &t.received), Err(7));
+    t.sent[2 * PROCESSES + 2] = MARK;
+    assert_eq!(check(&t.shape, &t.sent, &t.received), Err(6));
 }

@@ -1,4 +1,4 @@
-//! Demand 3 and the inverses of demand 2, tried on random books with messages in random orders.
+//! Demand 3, the inverses of demand 2 and the claims of E4, tried on random books with messages in random orders.
 
 use reference::*;
 
@@ -14,13 +14,45 @@ impl Random {
     }
 }
 
+#[derive(Clone)]
 struct Tables {
     shape: Shape,
     sent: Vec<Counter>,
     received: Vec<Counter>,
 }
 
-/// Tables of rising random counters: every accepted table can come out.
+impl Tables {
+    fn line(&self) -> [u64; PROCESSES] {
+        let (line, _) = find_line(&self.shape, &self.sent, &self.received).unwrap();
+        line
+    }
+
+    /// Where the row of process j's checkpoint r begins, j from 0.
+    fn row(&self, j: usize, r: u64) -> usize {
+        let before: u64 = self.shape.counts[..j].iter().sum();
+        (before + r - 1) as usize * PROCESSES
+    }
+
+    fn sent(&self, j: usize, r: u64, p: usize) -> Counter {
+        self.sent[self.row(j, r) + p]
+    }
+
+    fn received(&self, j: usize, r: u64, p: usize) -> Counter {
+        self.received[self.row(j, r) + p]
+    }
+
+    /// Appends a checkpoint of process j; the last row of each table must be free.
+    fn append(&mut self, j: usize, sent: &[Counter], received: &[Counter]) {
+        let at = self.row(j, self.shape.counts[j] + 1);
+        for (table, row) in [(&mut self.sent, sent), (&mut self.received, received)] {
+            table.copy_within(at..ENTRIES - PROCESSES, at + PROCESSES);
+            table[at..at + PROCESSES].copy_from_slice(row);
+        }
+        self.shape.counts[j] += 1;
+    }
+}
+
+/// Tables of rising random counters, the oldest received ones zero: every accepted table can come out.
 fn random_tables(random: &mut Random, most_processes: u64, most_checkpoints: u64) -> Tables {
     let n = 1 + random.below(most_processes) as usize;
     let mut counts = [0; PROCESSES];
@@ -29,10 +61,13 @@ fn random_tables(random: &mut Random, most_processes: u64, most_checkpoints: u64
     for (own, count) in counts.iter_mut().enumerate().take(n) {
         *count = 1 + random.below(most_checkpoints);
         for checkpoint in 0..*count {
-            for partner in (0..n).filter(|&partner| partner != own && checkpoint > 0) {
+            for partner in (0..n).filter(|&partner| partner != own) {
                 let entry = PROCESSES * row + partner;
-                sent[entry] = sent[entry - PROCESSES] + random.below(4) as Counter;
-                received[entry] = received[entry - PROCESSES] + random.below(3) as Counter;
+                sent[entry] = random.below(4) as Counter;
+                if checkpoint > 0 {
+                    sent[entry] += sent[entry - PROCESSES];
+                    received[entry] = received[entry - PROCESSES] + random.below(4) as Counter;
+                }
             }
             row += 1;
         }
@@ -147,7 +182,104 @@ fn moved_tables_have_their_line_on_checkpoint_1() {
         let found = search(&t.shape, &t.sent, &t.received, 1, purpose).unwrap();
         let order = move_line(&mut t.shape, &mut t.sent, &mut t.received, purpose).unwrap();
         assert_eq!(order.from, found.set);
-        let (line, _) = find_line(&t.shape, &t.sent, &t.received).unwrap();
-        assert!(line[..n].iter().all(|&checkpoint| checkpoint == 1));
+        assert!(t.line()[..n].iter().all(|&checkpoint| checkpoint == 1));
+        let once = t.clone();
+        move_line(&mut t.shape, &mut t.sent, &mut t.received, 1).unwrap();
+        assert_eq!((once.shape, once.sent, once.received), (t.shape, t.sent, t.received));
     }
+}
+
+/// What the line's checkpoints had sent and not received on the channel from j to p.
+fn in_flight(t: &Tables, line: &[u64; PROCESSES], j: usize, p: usize) -> Counter {
+    t.sent(j, line[j], p) - t.received(p, line[p], j)
+}
+
+#[test]
+fn an_oldest_sent_counter_is_what_is_on_its_way() {
+    let mut random = Random(6_364_136_223_846_793_005);
+    let mut above_zero = 0;
+    for _ in 0..200 {
+        let t = random_tables(&mut random, 8, 12);
+        let line = t.line();
+        for purpose in [1, 3] {
+            let mut moved = t.clone();
+            move_line(&mut moved.shape, &mut moved.sent, &mut moved.received, purpose).unwrap();
+            let n = t.shape.n as usize;
+            for (j, p) in (0..n).flat_map(|j| (0..n).map(move |p| (j, p))) {
+                assert_eq!(moved.sent(j, 1, p), in_flight(&t, &line, j, p));
+                assert_eq!(moved.received(j, 1, p), 0);
+                above_zero += u32::from(moved.sent(j, 1, p) > 0);
+            }
+        }
+    }
+    assert!(above_zero > 1000, "{above_zero}");
+}
+
+/// A later checkpoint of process j in a book that was never moved: it has sent a little more, and received at most what was
+/// sent, or one more.
+fn later_row(random: &mut Random, t: &Tables, j: usize) -> (Vec<Counter>, Vec<Counter>) {
+    let newest = t.shape.counts[j];
+    let (mut sent, mut received) = (vec![0; PROCESSES], vec![0; PROCESSES]);
+    for p in (0..t.shape.n as usize).filter(|&p| p != j) {
+        sent[p] = t.sent(j, newest, p) + random.below(3) as Counter;
+        let old = t.received(j, newest, p);
+        let known = t.sent(p, t.shape.counts[p], j) + random.below(2) as Counter;
+        received[p] = old + random.below(u64::from(known.saturating_sub(old)) + 1) as Counter;
+    }
+    (sent, received)
+}
+
+/// What went before, and what came off each channel from j to p, by all moves of a book so far.
+struct Gone {
+    before: [u64; PROCESSES],
+    off: [[Counter; PROCESSES]; PROCESSES],
+}
+
+impl Gone {
+    fn advance(&mut self, t: &mut Tables) {
+        let line = t.line();
+        let n = t.shape.n as usize;
+        for (j, p) in (0..n).flat_map(|j| (0..n).map(move |p| (j, p))) {
+            self.off[j][p] += t.received(p, line[p], j);
+        }
+        let order = move_line(&mut t.shape, &mut t.sent, &mut t.received, 1).unwrap();
+        (0..n).for_each(|j| self.before[j] += order.before[j]);
+    }
+
+    /// Appends the checkpoint to a moved book, "their counters in the moved book less what the move took off".
+    fn append_less(&self, t: &mut Tables, j: usize, sent: &[Counter], received: &[Counter]) {
+        let less_sent: Vec<Counter> = (0..PROCESSES).map(|p| sent[p] - self.off[j][p]).collect();
+        let less_received: Vec<Counter> = (0..PROCESSES).map(|p| received[p] - self.off[p][j]).collect();
+        t.append(j, &less_sent, &less_received);
+    }
+}
+
+/// "Finds the same physical checkpoints on the line of both", along chains of appends and moves.
+#[test]
+fn a_moved_book_has_the_line_of_the_whole_one() {
+    let mut random = Random(1_442_695_040_888_963_407);
+    let mut newer = 0;
+    for _ in 0..150 {
+        let mut whole = random_tables(&mut random, 6, 5);
+        let n = whole.shape.n as usize;
+        let mut moved = whole.clone();
+        let mut gone = Gone {
+            before: [0; PROCESSES],
+            off: [[0; PROCESSES]; PROCESSES],
+        };
+        for _ in 0..6 {
+            gone.advance(&mut moved);
+            for _ in 0..random.below(12) {
+                let j = random.below(n as u64) as usize;
+                let (sent, received) = later_row(&mut random, &whole, j);
+                whole.append(j, &sent, &received);
+                gone.append_less(&mut moved, j, &sent, &received);
+            }
+            let line = moved.line();
+            let renumbered: Vec<u64> = (0..n).map(|j| line[j] + gone.before[j]).collect();
+            assert_eq!(renumbered, whole.line()[..n]);
+            newer += u32::from(line[..n].iter().any(|&checkpoint| checkpoint > 1));
+        }
+    }
+    assert!(newer > 300, "{newer}");
 }

@@ -5,18 +5,22 @@
 
 #![deny(unsafe_code)]
 
+pub mod books;
 #[allow(unsafe_code)]
 pub mod calls;
 mod cells;
+pub mod edited_tables;
 pub mod edits;
 pub mod given;
 pub mod machine;
 pub mod mail;
+pub mod moves;
 pub mod session;
 pub mod session_edits;
 pub mod sets;
 pub mod strands;
 pub mod tables;
+pub mod taken_off;
 pub mod text;
 pub mod trial;
 

@@ -85,6 +85,34 @@ impl Tables {
     pub fn lent(&self) -> Lent<'_> {
         self.counters.with(&self.shape)
     }
+
+    /// How many processes there are; not more than there can be.
+    pub fn processes(&self) -> usize {
+        self.shape[0].min(PROCESSES as u64) as usize
+    }
+
+    /// How many checkpoints a process has; processes count from 0 here and below.
+    pub fn count(&self, process: usize) -> u64 {
+        self.shape[1 + process]
+    }
+
+    /// What a process's checkpoint had sent to a partner, if there is such a row.
+    pub fn sent(&self, process: usize, checkpoint: u64, partner: usize) -> Option<u64> {
+        let place = self.place(process, checkpoint, partner)?;
+        self.counters.sent.get(place).copied().map(u64::from)
+    }
+
+    /// What it had received from that partner.
+    pub fn received(&self, process: usize, checkpoint: u64, partner: usize) -> Option<u64> {
+        let place = self.place(process, checkpoint, partner)?;
+        self.counters.received.get(place).copied().map(u64::from)
+    }
+
+    fn place(&self, process: usize, checkpoint: u64, partner: usize) -> Option<usize> {
+        let rows = self.shape[1..=process].iter();
+        let row = rows.fold(checkpoint.checked_sub(1)?, |sum, &count| sum.saturating_add(count));
+        usize::try_from(row).ok()?.checked_mul(PROCESSES)?.checked_add(partner)
+    }
 }
 
 /// What a call that reads tables is lent.

@@ -16,8 +16,8 @@ use std::time::Instant;
 /// Cases of the gate.
 const GATE_CASES: u64 = 400_000;
 
-/// Cases from which on every answer of every call, every size of a journal, and sets and checkpoints with and without a fault
-/// must have been met.
+/// Cases from which on every answer of every call, every size of a journal, sets and checkpoints with and without a fault, and
+/// moves with and without messages on their way must have been met.
 const ENOUGH_CASES: u64 = 100_000;
 
 /// What the command line asks for.
@@ -108,6 +108,7 @@ fn report(runner: &Runner) -> bool {
     println!("demand 3: {sessions} sessions, {ended} of them to their end, {claims} times asserted");
     println!("journals: {}", runner.journals);
     println!("pairs: {}", runner.pairs);
+    println!("moves: {}", runner.moves);
     let missing = runner.missing();
     if runner.tally.cases >= ENOUGH_CASES && !missing.is_empty() {
         println!("what no case had: {}", missing.join(", "));
@@ -134,6 +135,7 @@ fn run_seeds(first: u64, cases: u64, seconds: f64) -> bool {
         total.claims += runner.claims;
         total.journals.merge(&runner.journals);
         total.pairs.merge(&runner.pairs);
+        total.moves.merge(&runner.moves);
         total.difference = runner.difference;
         if total.difference.is_some() {
             break;

@@ -13,7 +13,7 @@ use compare::benches::{Bench, Operation};
 use compare::book::Book;
 use compare::layout::JOURNAL_BYTES;
 use compare::line;
-use compare::measured_books::{dense, last_pair_at_fault, ring_with, typical};
+use compare::measured_books::{dense, in_flight, last_pair_at_fault, ring_with, typical};
 use compare::measured_journals::{in_any_order, in_turn};
 use compare::timing::medians;
 use std::process::ExitCode;
@@ -83,10 +83,20 @@ fn sixteen_typical() -> Book {
     typical(16, 16)
 }
 
+fn sixteen_in_flight() -> Book {
+    in_flight(16, 16)
+}
+
 /// All of 16 processes and 256 checkpoints, but for find-254: 2 processes and 256.
-const ROWS: [Row; 20] = [
+const ROWS: [Row; 22] = [
     row("read", "the largest book", Operation::Read, largest),
     row("check", "its tables", Operation::Check, largest),
+    row(
+        "check-sent",
+        "the oldest have sent",
+        Operation::Check,
+        sixteen_in_flight,
+    ),
     row("write", "the largest book", Operation::Write, largest),
     JOURNAL,
     row("test_set", "a consistent set", Operation::TestSet, largest),
@@ -135,6 +145,12 @@ const ROWS: [Row; 20] = [
         sixteen_falling,
     ),
     row("move", "purpose 3, T = 48", Operation::Move, sixteen_typical),
+    row(
+        "move-1",
+        "purpose 1, much on its way",
+        Operation::Advance,
+        sixteen_in_flight,
+    ),
 ];
 
 fn main() -> ExitCode {

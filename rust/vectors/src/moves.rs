@@ -1,20 +1,62 @@
-//! Reads lines of moves (edits of the tables, a book, a purpose, then what a move must answer), and prints for each
-//! what a move does answer: the question that refuses, or 0, the moved book and the restart order. Only the edits, the
-//! book and the purpose are taken from a line.
+//! Moves that are tried: the restart order, the moved tables, and what must hold of them.
 
-use std::io;
-use vectors::given::Given;
-use vectors::tables::{Tables, BUFFER, PROCESSES};
-use vectors::text::{self, Answer};
-use vectors::{calls, IN_WORDS};
+use crate::given::Given;
+use crate::tables::{Tables, BUFFER, PROCESSES};
+use crate::taken_off::TakenOff;
+use crate::text::{self, Answer};
+use crate::{calls, IN_WORDS};
+
+/// The purpose of a bare restart.
+const RESTART: u64 = 2;
 
 /// Sixteen checkpoints restarted from, and how many go before and after each.
-type Order = [u64; 3 * PROCESSES];
+#[derive(Clone, Copy, PartialEq)]
+pub struct Order([u64; 3 * PROCESSES]);
 
 /// What stands in an order before a move, and before one is asked for alone: not the same, so that what neither writes
 /// shows.
-const IN_MOVED: Order = [IN_WORDS; 3 * PROCESSES];
-const IN_ASKED: Order = [!IN_WORDS; 3 * PROCESSES];
+const IN_MOVED: Order = Order([IN_WORDS; 3 * PROCESSES]);
+const IN_ASKED: Order = Order([!IN_WORDS; 3 * PROCESSES]);
+
+impl Order {
+    /// The checkpoint that a process, counted from 0, restarts from.
+    pub fn from(&self, process: usize) -> u64 {
+        self.0[process]
+    }
+
+    pub fn before(&self, process: usize) -> u64 {
+        self.0[PROCESSES + process]
+    }
+
+    pub fn after(&self, process: usize) -> u64 {
+        self.0[2 * PROCESSES + process]
+    }
+}
+
+/// What a move answered, and what it left.
+pub struct Moved {
+    pub question: u32,
+    pub tables: Tables,
+    pub order: Order,
+}
+
+impl Moved {
+    /// A move of whole tables.
+    pub fn of(tables: &Tables, purpose: u64) -> Moved {
+        Moved::lent(tables, Given::all(tables.shape).entries(), purpose)
+    }
+
+    /// A move of tables of which so many entries are lent.
+    fn lent(tables: &Tables, entries: [usize; 2], purpose: u64) -> Moved {
+        let (mut tables, mut order) = (tables.clone(), IN_MOVED);
+        let question = calls::move_line(&mut tables, entries, purpose, &mut order.0);
+        Moved {
+            question,
+            tables,
+            order,
+        }
+    }
+}
 
 /// What a line says.
 struct Call {
@@ -23,42 +65,24 @@ struct Call {
     purpose: u64,
 }
 
-/// What a move answered, and what it left.
-struct Moved {
-    question: u32,
-    tables: Tables,
-    order: Order,
-}
-
-fn main() -> io::Result<()> {
-    text::answer_lines(|line| Some(try_line(line)))
-}
-
-fn try_line(line: &str) -> Answer {
-    let (edits, fields) = text::edits_and_call(line, text::is_no_edit);
-    match call_in(edits, fields) {
-        Some(call) => try_call(&call),
-        None => Answer::unreadable("?"),
-    }
-}
-
-/// The call of a line: its edits, and the book and the purpose behind them.
-fn call_in(edits: &str, fields: &str) -> Option<Call> {
+/// What is printed for edits of the tables, and a book and a purpose: the question that refuses, or 0, the moved book and
+/// the restart order.
+pub fn try_fields(edits: &str, fields: &str) -> Option<Answer> {
     let (book, fields) = text::first(fields);
     let mut tables = Tables::of_field(book)?;
     let purpose = text::decimal(text::first(fields).0)?;
     let mut given = Given::all(tables.shape);
     given.edit_all(edits, &mut tables.counters)?;
     tables.shape = given.shape;
-    Some(Call { tables, given, purpose })
+    Some(try_call(&Call { tables, given, purpose }))
 }
 
 /// The order is asked for, and then the move is made: both have the same answer.
 fn try_call(call: &Call) -> Answer {
     let mut answer = Answer::default();
     let mut order = IN_ASKED;
-    let question = calls::restart_order(call.given.lent(&call.tables.counters), call.purpose, &mut order);
-    let moved = moved(&call.tables, call.given.entries(), call.purpose);
+    let question = calls::restart_order(call.given.lent(&call.tables.counters), call.purpose, &mut order.0);
+    let moved = Moved::lent(&call.tables, call.given.entries(), call.purpose);
     if moved.question == 0 {
         put_moved(&mut answer, &moved);
         expect_moved(&mut answer, call, &moved);
@@ -72,27 +96,16 @@ fn try_call(call: &Call) -> Answer {
     answer
 }
 
-/// A move of tables of which so many entries are lent.
-fn moved(tables: &Tables, entries: [usize; 2], purpose: u64) -> Moved {
-    let mut tables = tables.clone();
-    let mut order = IN_MOVED;
-    let question = calls::move_line(&mut tables, entries, purpose, &mut order);
-    Moved {
-        question,
-        tables,
-        order,
-    }
-}
-
 /// `0`, the moved book, and from:before:after for each process.
 fn put_moved(answer: &mut Answer, moved: &Moved) {
+    let Moved { tables, order, .. } = moved;
     answer.put("0 ");
-    match moved.tables.lent().write(BUFFER).book() {
+    match tables.lent().write(BUFFER).book() {
         Some(book) => answer.put_bytes(book),
         None => answer.put("?"),
     }
-    for j in (0..PROCESSES).filter(|&j| (j as u64) < moved.tables.shape[0]) {
-        let [from, before, after] = [0, 1, 2].map(|part| moved.order[part * PROCESSES + j]);
+    for j in 0..tables.processes() {
+        let (from, before, after) = (order.from(j), order.before(j), order.after(j));
         answer.put(format_args!(" {from}:{before}:{after}"));
     }
 }
@@ -104,6 +117,8 @@ fn expect_moved(answer: &mut Answer, call: &Call, moved: &Moved) {
     answer.expect(has_oldest_line(tables), "line");
     answer.expect(stays(tables), "again");
     answer.expect(goes_by_line(call, &moved.order), "from");
+    let off = TakenOff::by(&moved.order, &call.tables);
+    answer.expect(off.leaves(&call.tables, tables), "off");
 }
 
 /// Is a set checkpoint 1 of each of n processes, and 0 of absent ones?
@@ -119,14 +134,14 @@ fn has_oldest_line(tables: &Tables) -> bool {
 
 /// Moved once more with purpose 1, are the tables still the same?
 fn stays(tables: &Tables) -> bool {
-    let again = moved(tables, Given::all(tables.shape).entries(), 1);
+    let again = Moved::of(tables, 1);
     again.question == 0 && again.tables == *tables
 }
 
 /// Does a move go by the line of the tables as they were, with purpose 2 by the oldest checkpoints?
 fn goes_by_line(call: &Call, order: &Order) -> bool {
-    let from = &order[..PROCESSES];
-    if call.purpose == 2 {
+    let from = &order.0[..PROCESSES];
+    if call.purpose == RESTART {
         return is_oldest(from, call.tables.shape[0]);
     }
     let found = call.tables.lent().find_line();
