@@ -357,14 +357,14 @@ RECOVERY_LINE_NODISCARD uint32_t recovery_line_search(
  * and b, what b's line checkpoint (with purpose 2 checkpoint 1, so nothing) had received from a is taken off both a's counters
  * of what it sent to b and b's counters of what it received from a.
  * Questions: the tables', 11.
- * Stack: 13312 bytes. */
+ * Stack: 14336 bytes. */
 RECOVERY_LINE_NODISCARD uint32_t recovery_line_move(
     uint64_t *shape, size_t shape_len, recovery_line_counter *sent, size_t sent_len,
     recovery_line_counter *received, size_t received_len, uint64_t purpose, uint64_t *order, size_t order_len);
 
 /* Gives the restart order that `recovery_line_move` would give, and moves nothing.
  * Questions: the tables', 11.
- * Stack: 13312 bytes. */
+ * Stack: 14336 bytes. */
 RECOVERY_LINE_NODISCARD uint32_t recovery_line_restart_order(
     const uint64_t *shape, size_t shape_len, const recovery_line_counter *sent, size_t sent_len,
     const recovery_line_counter *received, size_t received_len, uint64_t purpose, uint64_t *order, size_t order_len);

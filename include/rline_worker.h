@@ -8,7 +8,8 @@
 #define RLINE_WORKER_H
 
 /* What a process has sent to and received from each other one, counted from the present line (rline_move says what a move
- * takes off); place p - 1 is partner p. A copy of it is a checkpoint. Its own place and those of absent processes stay 0: tables in which they are not are refused by 9. */
+ * takes off); place p - 1 is partner p. A copy of it is a checkpoint. Its own place and those of absent processes stay 0: tables
+ * in which they are not are refused by 9. */
 typedef struct rline_counts {
     recovery_line_counter sent[RECOVERY_LINE_PROCESSES], received[RECOVERY_LINE_PROCESSES];
 } rline_counts;

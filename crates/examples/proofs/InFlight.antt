@@ -62,16 +62,14 @@ grown = record {
 
 -- ---- both books
 
-pub smallest-holds : Smallest
+pub in-flight-hold : Smallest × HalfReceived
 unfolding computing shown.bookShown plan.planned plan.applied values.orderOf values.numbers calls.moveQuestion calls.bookMoved calls.orderGiven calls.shapeMoved calls.sentMoved calls.receivedMoved appended.viewAppended tables.partnerColumn
-smallest-holds = record { line = refl; moved = refl; later = refl; same = (refl, refl) }
-
-pub half-received-holds : HalfReceived
-unfolding computing shown.bookShown plan.planned plan.applied values.orderOf values.numbers calls.moveQuestion calls.bookMoved calls.orderGiven calls.shapeMoved calls.sentMoved calls.receivedMoved appended.viewAppended tables.partnerColumn
-half-received-holds =
-    record {
-      in-flight = record { line = refl; moved = refl; later = refl; same = (refl, refl) };
-      off = (refl, refl);
-      accepted = (record { sixteen = refl; passed = refl }, record { sixteen = refl; passed = refl });
-      grown = grown;
-    }
+in-flight-hold = (
+  record { line = refl; moved = refl; later = refl; same = (refl, refl) },
+  record {
+    in-flight = record { line = refl; moved = refl; later = refl; same = (refl, refl) };
+    off = (refl, refl);
+    accepted = (record { sixteen = refl; passed = refl }, record { sixteen = refl; passed = refl });
+    grown = grown;
+  },
+)
