@@ -62,9 +62,9 @@ grown = record {
 
 -- ---- both books
 
-pub in-flight-hold : Smallest × HalfReceived
+both : Smallest × HalfReceived
 unfolding computing shown.bookShown plan.planned plan.applied values.orderOf values.numbers calls.moveQuestion calls.bookMoved calls.orderGiven calls.shapeMoved calls.sentMoved calls.receivedMoved appended.viewAppended tables.partnerColumn
-in-flight-hold = (
+both = (
   record { line = refl; moved = refl; later = refl; same = (refl, refl) },
   record {
     in-flight = record { line = refl; moved = refl; later = refl; same = (refl, refl) };
@@ -73,3 +73,9 @@ in-flight-hold = (
     grown = grown;
   },
 )
+
+pub smallest-holds : Smallest
+smallest-holds = both .0
+
+pub half-received-holds : HalfReceived
+half-received-holds = both .1
