@@ -15,8 +15,8 @@ use Rattle.line_theory.proofs.Accepted.{accepted-book}
 use Rattle.shown.specs.Statements.{IsCounter, ShowsBook, SameCounters, IsLonger}
 use Rattle.shown.proofs.Theorems.{accepted-shows, shown-is-accepted, shown-is-view}
 use Rattle.restart.specs.Plan.{planned, takenOff}
-use Rattle.restart.proofs.Orders.{move-passes, before-at, after-at}
-use Rattle.move_laws.specs.Moves.{Move, IsAccepted, viewBefore, viewAfter, shapeAfter, orderWith}
+use Rattle.restart.proofs.Orders.{move-passes, before-at}
+use Rattle.move_laws.specs.Moves.{Move, IsAccepted, viewBefore, viewAfter, orderWith}
 use Rattle.move_laws.specs.Appended.{MovedBook, unmoved, advance, advanced, IsAppended, viewAppended, appended, Grows, lastOf, along}
 use Rattle.move_laws.proofs.Views.{sent-back, received-back}
 use Rattle.move_laws.proofs.Lines.{Behind}

@@ -26,7 +26,7 @@ use Rattle.book.specs.Names.{isPurpose}
 use Rattle.shown.specs.Shown.{bookShown}
 use Rattle.shown.specs.Statements.{IsCounter, SameCounters}
 use Rattle.shown.proofs.Theorems.{same-book, tables-shown}
-use Rattle.restart.specs.Plan.{planned, takenOff, moved}
+use Rattle.restart.specs.Plan.{planned, moved}
 use Rattle.restart.specs.Values.{present}
 use Rattle.restart.proofs.Purposes.{three-purposes, advance-is, restart-is}
 use Rattle.restart.proofs.Values.{number-none, present-all}

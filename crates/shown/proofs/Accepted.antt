@@ -1,5 +1,5 @@
 -- The view of accepted tables: zero elsewhere, and as a book is asked to be.
-use mathlib.Core.Path.{_≡_, _∙_}
+use mathlib.Core.Path.{_≡_}
 use mathlib.Core.Bool.{true}
 use mathlib.Core.List.{List}
 use mathlib.Core.Logic.{inr}
