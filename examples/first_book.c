@@ -1,5 +1,5 @@
 /*
- * From what three workers did to where they restart.
+ * From what three workers did to where they restart, and what they send again.
  *
  *     cc -std=c11 -I include examples/first_book.c target/staticlib/librecovery_line.a -o first_book
  *     ./first_book
@@ -34,9 +34,18 @@ int main(void) {
         fprintf(stderr, "refused by question %" PRIu32 ": %s\n", refused, recovery_line_question(refused));
         return 1;
     }
-    for (uint64_t p = 1; p <= rline_processes(&tables); p++) {
+    uint64_t n = rline_processes(&tables);
+    for (uint64_t p = 1; p <= n; p++) {
         rline_restart restart = rline_order_get(&order, rline_process_number(p));
         printf("worker %" PRIu64 " restarts from checkpoint %" PRIu64 "\n", p, restart.from.number);
+    }
+    for (uint64_t p = 1; p <= n; p++) {
+        for (uint64_t q = 1; q <= n; q++) {
+            rline_repeat repeat = rline_order_repeat(&order, rline_process_number(p), rline_process_number(q));
+            for (uint64_t k = repeat.first; k != 0 && k <= repeat.last; k++) {
+                printf("worker %" PRIu64 " sends worker %" PRIu64 " message %" PRIu64 " again\n", p, q, k);
+            }
+        }
     }
     return 0;
 }

@@ -1,5 +1,5 @@
 /*
- * From what three workers did to where they restart, in C++.
+ * From what three workers did to where they restart and what they send again, in C++.
  *
  *     c++ -std=c++17 -I include examples/first_book.cpp target/staticlib/librecovery_line.a -o first_book
  *     ./first_book
@@ -35,8 +35,17 @@ int main() {
         std::cerr << "refused by question " << refused << ": " << recovery_line_question(refused) << '\n';
         return 1;
     }
-    for (uint64_t p = 1; p <= rline_processes(tables.get()); p++) {
+    const auto n = rline_processes(tables.get());
+    for (uint64_t p = 1; p <= n; p++) {
         const auto restart = rline_order_get(&order, {p});
         std::cout << "worker " << p << " restarts from checkpoint " << restart.from.number << '\n';
+    }
+    for (uint64_t p = 1; p <= n; p++) {
+        for (uint64_t q = 1; q <= n; q++) {
+            const auto repeat = rline_order_repeat(&order, {p}, {q});
+            for (uint64_t k = repeat.first; k != 0 && k <= repeat.last; k++) {
+                std::cout << "worker " << p << " sends worker " << q << " message " << k << " again\n";
+            }
+        }
     }
 }

@@ -177,7 +177,20 @@ static void compare_with_line(void) {
     printf("\npassed %" PRIu64 "\n", line.passed);
 }
 
-/* Moves the line, which needs the whole book, and prints from where everybody restarts and the new book. */
+/* Prints what everybody sends again: messages that crossed the line. */
+static void print_repeats(const rline_order *order) {
+    for (uint64_t p = 1; p <= rline_processes(&book); p++) {
+        for (uint64_t q = 1; q <= rline_processes(&book); q++) {
+            rline_repeat repeat = rline_order_repeat(order, rline_process_number(p), rline_process_number(q));
+            if (repeat.first != 0) {
+                printf("process %" PRIu64 " sends process %" PRIu64 " messages ", p, q);
+                printf("%" PRIu64 " to %" PRIu64 " again\n", repeat.first, repeat.last);
+            }
+        }
+    }
+}
+
+/* Moves the line, which needs the whole book, and prints from where everybody restarts, what is sent again and the new book. */
 static void move_line(void) {
     static uint8_t bytes[RECOVERY_LINE_BOOK_BYTES];
     static rline_order order;
@@ -188,6 +201,7 @@ static void move_line(void) {
         printf("process %" PRIu64 " restarts from checkpoint %" PRIu64, p, restart.from.number);
         printf("; before it %" PRIu64 " go, after it %" PRIu64 "\n", restart.before, restart.after);
     }
+    print_repeats(&order);
     accepted(rline_write(&book, bytes, sizeof bytes, &length));
     printf("new book");
     print_bytes(bytes, length);

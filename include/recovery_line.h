@@ -9,8 +9,7 @@
  *     cc -I include examples/search_and_move.c target/staticlib/librecovery_line.a -o search_and_move
  *     c++ -std=c++17 -I include examples/first_book.cpp target/staticlib/librecovery_line.a -o first_book
  *
- * The first writes librecovery_line.a. A program that may meet another archive than this header's asks first whether
- * recovery_line_version() is RECOVERY_LINE_VERSION.
+ * A program that may meet another archive than this header's asks first whether recovery_line_version() is RECOVERY_LINE_VERSION.
  *
  * Every call, recovery_line_version and the inline recovery_line_question aside,
  *   - returns 0 if it accepts, and else the number of the first question that fails: recovery_line_question gives the sentence;
@@ -32,17 +31,20 @@
  *   - Stack: no call was measured to need more than RECOVERY_LINE_STACK_BYTES; on a signal handler's stack that comes on top of
  *     what the handler and the system take. What each was measured to need, rounded up, stands with it.
  *
- * Words. Shapes, sets, states, sessions, lengths and orders cross as 64-bit words in slices of a fixed, named length, with a
- * name too for the place of each part, as RECOVERY_LINE_INITIATOR_ROUNDS_AT, and for each stage, flag and kind. A slice of
- * words of any other length is refused by RECOVERY_LINE_WRONG_LENGTH, before every question. The same holds of sixteen counters
- * that are lent beside the tables, as `known`; they have a table entry's type. Tables have another rule: question 2 asks their
- * lengths.
+ * Words. Shapes, sets, states, sessions, lengths, orders and lists cross as 64-bit words in slices of a fixed, named length,
+ * with a name too for the place of each part, as RECOVERY_LINE_INITIATOR_ROUNDS_AT, and for each stage, flag and kind. A slice
+ * of words of any other length is refused by RECOVERY_LINE_WRONG_LENGTH, before every question. The same holds of sixteen
+ * counters that are lent beside the tables, as `known`; they have a table entry's type. Tables have another rule: question 2
+ * asks their lengths.
  *   shape        n, then sixteen counts of checkpoints; 0 for absent processes.
  *   set, line    sixteen checkpoint numbers; 0 for absent processes.
  *   pair         two process numbers; 0 0 for none.
  *   lengths      how many bytes were written for each of sixteen processes; 0 for none.
  *   order        sixteen checkpoints restarted from (with purpose 1 the line's: nobody restarts), numbered as before the move;
- *                how many older ones are dropped, for each of sixteen; and how many newer ones.
+ *                how many older ones are dropped, for each of sixteen; how many newer ones; and a list of what to send again.
+ *   resend       a list of what to send again, as counted before the move: for each channel, sixteen rows of sixteen, a row for
+ *                each sender, the first message that the checkpoints restarted from have sent and not received, 0 for none;
+ *                then the last one, likewise. With purpose 1 nobody restarts: the list says what crosses the line.
  *   participant  n, process, initiator, purpose, stage, candidate; then sixteen counters of the row that it last reported, and
  *                sixteen of its column: what each other process is known to have sent to it.
  *   initiator    n, process, purpose, whether it has ended, candidate, rounds; then sixteen flags of who is awaited; the
@@ -60,11 +62,12 @@
  * Messages are counted from the present line, which is of the oldest checkpoints: these have received nothing, and have sent
  * what was on its way when the line became theirs.
  *
- * Books, journals and messages are bytes: numbers in groups of seven bits, lowest group first, the top bit of a byte set when
+ * Books, journals, messages and lists are bytes: numbers in groups of seven bits, lowest first, the top bit of a byte set when
  * another group follows.
  *   message      kind, purpose, sender, count of pairs, then the pairs (process, counter), rising by process.
  *   journal      n, then the events in the order in which they happened: kind, process, and of what is sent or received the
  *                partner. It may end after any event, or after n.
+ *   list         count of entries, then the entries (sender, receiver, first, last), rising by sender, then receiver.
  */
 #ifndef RECOVERY_LINE_H
 #define RECOVERY_LINE_H
@@ -85,9 +88,8 @@
 extern "C" {
 #endif
 
-/* The version of this interface: it changes when a declaration, a layout or the meaning of a call does; a call that is added
- * changes none of them. */
-#define RECOVERY_LINE_VERSION 4
+/* The version of this interface: it changes when a declaration, a layout or what a call means does, not when one is added. */
+#define RECOVERY_LINE_VERSION 5
 
 /* Bounds. */
 #define RECOVERY_LINE_PROCESSES 16
@@ -101,16 +103,18 @@ extern "C" {
 /* Slices of words: how many each has, and where its parts begin. What stands in them is said above; every part begins where the
  * one before it ends. The first word of a shape, a participant, an initiator and a session is n. */
 #define RECOVERY_LINE_N_AT 0
-
 #define RECOVERY_LINE_SHAPE_COUNTS_AT 1
 #define RECOVERY_LINE_SHAPE_WORDS (RECOVERY_LINE_SHAPE_COUNTS_AT + RECOVERY_LINE_PROCESSES)
 #define RECOVERY_LINE_SET_WORDS RECOVERY_LINE_PROCESSES
 #define RECOVERY_LINE_PAIR_WORDS 2
 #define RECOVERY_LINE_LENGTHS_WORDS RECOVERY_LINE_PROCESSES
 
+#define RECOVERY_LINE_RESEND_LAST_AT RECOVERY_LINE_MATRIX_ENTRIES
+#define RECOVERY_LINE_RESEND_WORDS (RECOVERY_LINE_RESEND_LAST_AT + RECOVERY_LINE_MATRIX_ENTRIES)
 #define RECOVERY_LINE_ORDER_BEFORE_AT RECOVERY_LINE_SET_WORDS
 #define RECOVERY_LINE_ORDER_AFTER_AT (RECOVERY_LINE_ORDER_BEFORE_AT + RECOVERY_LINE_PROCESSES)
-#define RECOVERY_LINE_ORDER_WORDS (RECOVERY_LINE_ORDER_AFTER_AT + RECOVERY_LINE_PROCESSES)
+#define RECOVERY_LINE_ORDER_RESEND_AT (RECOVERY_LINE_ORDER_AFTER_AT + RECOVERY_LINE_PROCESSES)
+#define RECOVERY_LINE_ORDER_WORDS (RECOVERY_LINE_ORDER_RESEND_AT + RECOVERY_LINE_RESEND_WORDS)
 
 #define RECOVERY_LINE_PARTICIPANT_PROCESS_AT 1
 #define RECOVERY_LINE_PARTICIPANT_INITIATOR_AT (RECOVERY_LINE_PARTICIPANT_PROCESS_AT + 1)
@@ -160,14 +164,17 @@ extern "C" {
 #define RECOVERY_LINE_MESSAGE_BYTES(n) (RECOVERY_LINE_HEAD_SIZE + ((n) - 1) * RECOVERY_LINE_PAIR_SIZE)
 #define RECOVERY_LINE_STRAND_BYTES(n) (((n) - 1) * RECOVERY_LINE_MESSAGE_BYTES(n))
 
+/* The longest list: a count of two bytes, and for each channel two processes of one byte each and two numbers. */
+#define RECOVERY_LINE_MOST_RESEND_BYTES \
+    (2 + RECOVERY_LINE_PROCESSES * (RECOVERY_LINE_PROCESSES - 1) * (2 + 2 * RECOVERY_LINE_GROUPS))
+
 /* The stack that suffices for every call: a quarter more than the most that was measured, rounded up. */
 #define RECOVERY_LINE_STACK_BYTES 77824
 
 /* An entry of a table: a counter. */
 typedef uint32_t recovery_line_counter;
 
-/* A counter that is not known, in a state's rows, columns and matrices, and in a column that is lent; never in tables or
- * messages. */
+/* A counter that is not known, in a state's rows, columns and matrices and in a lent column; never in tables or messages. */
 #define RECOVERY_LINE_NOT_KNOWN 4294967295u
 
 /* Purposes.
@@ -221,6 +228,8 @@ static inline const char *recovery_line_question(uint32_t question) {
     case 18: return "Is a message waiting on that strand?";
     case 19: return "Is the event formed: its kind 1, 2 or 3, its numbers, and a partner other than the process?";
     case 20: return "Of a receipt: is a message underway from the partner to the process?";
+    case 21: return "Does the list rise by sender, then receiver, with two processes and a first message from 1 to the last "
+                    "in each entry, and nothing after it?";
     case RECOVERY_LINE_WRONG_LENGTH: return "A slice of words, or of sixteen counters, has the wrong length.";
     default: return "The specification has no such question.";
     }
@@ -357,17 +366,32 @@ RECOVERY_LINE_NODISCARD uint32_t recovery_line_search(
  * and b, what b's line checkpoint (with purpose 2 checkpoint 1, so nothing) had received from a is taken off both a's counters
  * of what it sent to b and b's counters of what it received from a.
  * Questions: the tables', 11.
- * Stack: 14336 bytes. */
+ * Stack: 26624 bytes. */
 RECOVERY_LINE_NODISCARD uint32_t recovery_line_move(
     uint64_t *shape, size_t shape_len, recovery_line_counter *sent, size_t sent_len,
     recovery_line_counter *received, size_t received_len, uint64_t purpose, uint64_t *order, size_t order_len);
 
 /* Gives the restart order that `recovery_line_move` would give, and moves nothing.
  * Questions: the tables', 11.
- * Stack: 14336 bytes. */
+ * Stack: 28672 bytes. */
 RECOVERY_LINE_NODISCARD uint32_t recovery_line_restart_order(
     const uint64_t *shape, size_t shape_len, const recovery_line_counter *sent, size_t sent_len,
     const recovery_line_counter *received, size_t received_len, uint64_t purpose, uint64_t *order, size_t order_len);
+
+/* Writes the list of the restart order for a purpose to the start of `out`, and its length; the bytes after it stay.
+ * RECOVERY_LINE_MOST_RESEND_BYTES bytes always suffice.
+ * Questions: the tables', 11, 17.
+ * Stack: 28672 bytes. */
+RECOVERY_LINE_NODISCARD uint32_t recovery_line_write_resend(
+    const uint64_t *shape, size_t shape_len, const recovery_line_counter *sent, size_t sent_len,
+    const recovery_line_counter *received, size_t received_len, uint64_t purpose, uint8_t *out, size_t out_len,
+    uint64_t *length);
+
+/* Reads a list of what to send again among n processes into `resend`, every word of it.
+ * Questions: 4 of n, 3 of the count, then entry by entry 3 of all four numbers, 10, 21, and 21 of the end.
+ * Stack: 5120 bytes. */
+RECOVERY_LINE_NODISCARD uint32_t recovery_line_read_resend(
+    uint64_t n, const uint8_t *bytes, size_t bytes_len, uint64_t *resend, size_t resend_len);
 
 #ifdef __cplusplus
 }

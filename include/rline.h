@@ -17,8 +17,8 @@
  * RECOVERY_LINE_STACK_BYTES suffice for what is called. A look (a function that returns anything else) asks nothing: of a
  * process or a checkpoint that there is not it gives 0.
  *
- * Tables, machines, sessions, messages, orders and buffers are initialised before they are lent: `static`, or `= {0}` in C and
- * `{}` in C++. Small results (a line, a fault, a partner, a search's result, a length) need not be.
+ * Tables, machines, sessions, messages, orders, lists and buffers are initialised before they are lent: `static`, or `= {0}` in
+ * C and `{}` in C++. Small results (a line, a fault, a partner, a search's result, a length) need not be.
  */
 #ifndef RLINE_H
 #define RLINE_H
@@ -71,6 +71,16 @@ typedef struct rline_restart {
     rline_checkpoint from;
     uint64_t before, after;
 } rline_restart;
+
+/* A list of what to send again, which every order has too, and what it says of one channel: its sender sends the receiver the
+ * messages from `first` to `last` again, both included, as counted before the move. Two zeros: none. With purpose 1 nobody
+ * restarts, and so nobody sends anything again: the list says what crosses the line. */
+typedef struct rline_resend {
+    uint64_t words[RECOVERY_LINE_RESEND_WORDS];
+} rline_resend;
+typedef struct rline_repeat {
+    uint64_t first, last;
+} rline_repeat;
 
 /* On what a search has ended, how many checkpoints are newer than that, and the rounds and messages that it took. */
 typedef struct rline_search_result {
@@ -325,6 +335,50 @@ RECOVERY_LINE_NODISCARD static inline rline_restart rline_order_get(const rline_
                              rline_word(order->words + RECOVERY_LINE_ORDER_BEFORE_AT, process),
                              rline_word(order->words + RECOVERY_LINE_ORDER_AFTER_AT, process)};
     return restart;
+}
+
+/* The word of a channel in a matrix that has a row for each sender; 0 for none. */
+RECOVERY_LINE_NODISCARD static inline uint64_t rline_channel_word(const uint64_t *matrix, rline_process sender,
+                                                                  rline_process receiver) {
+    return rline_is_process(sender) ? rline_word(matrix + (sender.number - 1) * RECOVERY_LINE_PROCESSES, receiver) : 0;
+}
+
+/* What the words of a list say of a channel. */
+RECOVERY_LINE_NODISCARD static inline rline_repeat rline_repeat_in(const uint64_t *words, rline_process sender,
+                                                                   rline_process receiver) {
+    rline_repeat repeat = {rline_channel_word(words, sender, receiver),
+                           rline_channel_word(words + RECOVERY_LINE_RESEND_LAST_AT, sender, receiver)};
+    return repeat;
+}
+
+/* What a sender sends a receiver again by an order. */
+RECOVERY_LINE_NODISCARD static inline rline_repeat rline_order_repeat(const rline_order *order, rline_process sender,
+                                                                      rline_process receiver) {
+    return rline_repeat_in(order->words + RECOVERY_LINE_ORDER_RESEND_AT, sender, receiver);
+}
+
+/* And by a list. */
+RECOVERY_LINE_NODISCARD static inline rline_repeat rline_resend_repeat(const rline_resend *resend, rline_process sender,
+                                                                       rline_process receiver) {
+    return rline_repeat_in(resend->words, sender, receiver);
+}
+
+/* Writes the list of the order that rline_move would give to the start of `out`, and its length;
+ * RECOVERY_LINE_MOST_RESEND_BYTES bytes always suffice. */
+RECOVERY_LINE_NODISCARD static inline uint32_t rline_write_resend(const rline_tables *tables, uint64_t purpose, uint8_t *out,
+                                                                  size_t room, size_t *length) {
+    uint64_t written = 0;
+    uint32_t answer = recovery_line_write_resend(RLINE_TABLES(tables), purpose, out, room, &written);
+    if (answer == RECOVERY_LINE_ACCEPTED) {
+        *length = (size_t)written;
+    }
+    return answer;
+}
+
+/* Reads the bytes of a list, among n processes. */
+RECOVERY_LINE_NODISCARD static inline uint32_t rline_read_resend(rline_resend *resend, uint64_t n, const uint8_t *list,
+                                                                 size_t length) {
+    return recovery_line_read_resend(n, list, length, RLINE_ARRAY(resend->words));
 }
 
 #include "rline_machines.h"

@@ -116,8 +116,8 @@ RECOVERY_LINE_NODISCARD static inline uint32_t rline_whole_tables(rline_tables *
 
 /* Makes the tables of worker `me`, one of n, that knows its own checkpoints alone: `count` of them, oldest first (which has
  * received nothing); each other process gets one of zeros. The worker's machine goes by them as by the whole book.
- * rline_find, rline_test_set, rline_restart_order, rline_move, rline_search and rline_session_start do not: for them these are
- * a book in which the others have sent nothing, and so they go back too far. They need the whole book.
+ * rline_find, rline_test_set, rline_restart_order, rline_move, rline_write_resend, rline_search and rline_session_start do not:
+ * for them these are a book in which the others have sent nothing, and so they go back too far. They need the whole book.
  * Questions: 4, 10, 5 (of all checkpoints together), then those of tables. Stack: as for rline_whole_tables. */
 RECOVERY_LINE_NODISCARD static inline uint32_t rline_own_tables(rline_tables *tables, uint64_t n, rline_process me,
                                                                 const rline_counts *checkpoints, size_t count) {

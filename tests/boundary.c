@@ -12,7 +12,7 @@
 #include <sys/mman.h>
 #include <unistd.h>
 
-/* Fills what the calls read: tables, a set, a column, messages and states; all else keeps its pattern. */
+/* Fills what the calls read: tables, a set, a column, messages, a list and states; all else keeps its pattern. */
 static void prepare(void) {
     const uint64_t set[RECOVERY_LINE_SET_WORDS] = {2, 2, 2};
     lay_out();
@@ -23,6 +23,7 @@ static void prepare(void) {
     put(KNOWN, known, sizeof known);
     put(INVITATION, invitation, sizeof invitation);
     put(REPORT, report, sizeof report);
+    put(LIST, list, sizeof list);
     expect(call_read() == 0, "read", "-", "the book is accepted");
     expect(call_participant_first() == 0, "participant_first", "-", "a state is made");
     expect(call_initiator_begin() == 0, "initiator_begin", "-", "a state is made");
@@ -70,6 +71,7 @@ static void wrong_words_come_first(void) {
                 lend_nothing(STRANDS);
                 lend_nothing(BYTES);
                 lend_nothing(EVENTS);
+                lend_nothing(LIST);
                 refused(&calls[c], RECOVERY_LINE_WRONG_LENGTH, kinds[s].name, "a wrong length comes first");
             }
         }
@@ -81,8 +83,9 @@ static void wrong_tables_come_second(void) {
     const enum slice tables[] = {SENT, RECEIVED};
     const size_t lengths[] = {0, RECOVERY_LINE_TABLE_ENTRIES - 1, RECOVERY_LINE_TABLE_ENTRIES + 1};
     for (int c = 0; c < CALLS; c++) {
+        bool has_tables = (calls[c].reads | calls[c].writes) & OF(SENT);
         for (int t = 0; t < 2; t++) {
-            for (int i = 0; i < 3; i++) {
+            for (int i = 0; has_tables && i < 3; i++) {
                 lend_all();
                 lend_with(tables[t], lengths[i]);
                 refused(&calls[c], 2, kinds[tables[t]].name, "a table of another length is refused");
@@ -116,7 +119,7 @@ static void no_bytes(void) {
         uint32_t answer;
     } cases[] = {{READ, BYTES, 3}, {JOURNAL, EVENTS, 3}, {WRITE, OUT, 17}, {PARTICIPANT_RECEIVE, INVITATION, 14},
                  {PARTICIPANT_RECEIVE, OUT, 17}, {INITIATOR_BEGIN, OUT, 17}, {INITIATOR_RECEIVE, REPORT, 14},
-                 {SESSION_START, STRANDS, 17}, {SESSION_TURN, STRANDS, 13}};
+                 {SESSION_START, STRANDS, 17}, {SESSION_TURN, STRANDS, 13}, {WRITE_RESEND, OUT, 17}, {READ_RESEND, LIST, 3}};
     for (size_t i = 0; i < sizeof cases / sizeof cases[0]; i++) {
         lend_all();
         lend_nothing(cases[i].slice);
@@ -151,6 +154,22 @@ static void first_pair_is_shown(void) {
     expect(call_test_set() == 0 && word(PAIR, 0) == 1 && word(PAIR, 1) == 2, "test_set", "pair", "is 1 2");
     expect(call_test_checkpoint() == 0 && word(PARTNER, 0) == 2, "test_checkpoint", "partner", "is 2");
     end_group("the first pair at fault is shown, and the lowest partner named");
+}
+
+/* The list of the order is what is written, and what is read of that. */
+static void lists_are_the_same(void) {
+    const int second = RECOVERY_LINE_PROCESSES, third = 2 * RECOVERY_LINE_PROCESSES; /* their channels to process 1 */
+    lend_all();
+    expect(call_restart_order() == 0, "restart_order", "order", "is given");
+    expect(call_write_resend() == 0 && word(LENGTH, 0) == sizeof list, "write_resend", "length", "is the list's");
+    expect(memcmp(lent[OUT].start, list, sizeof list) == 0, "write_resend", "out", "is the list");
+    expect(call_read_resend() == 0, "read_resend", "list", "is accepted");
+    const uint64_t *order = (uint64_t *)lent[ORDER].start + RECOVERY_LINE_ORDER_RESEND_AT;
+    expect(memcmp(order, lent[RESEND].start, RECOVERY_LINE_RESEND_WORDS * 8) == 0, "read_resend", "resend", "is the order's");
+    expect(order[second] == 1 && order[third] == 1, "restart_order", "order", "has the first messages");
+    order += RECOVERY_LINE_RESEND_LAST_AT;
+    expect(order[second] == 3 && order[third] == 7, "restart_order", "order", "has the last messages");
+    end_group("an order has the list that is written, and that is read into the same words");
 }
 
 /* One table for both, and a row of it for the column: process 1's newest row permits itself, its oldest nothing. */
@@ -266,6 +285,8 @@ static void exact_buffers(void) {
     exact_buffer(&calls[INITIATOR_BEGIN], OUT, 2 * sizeof invitation, 17);
     exact_buffer(&calls[INITIATOR_RECEIVE], REPORT, sizeof report, 14);
     exact_buffer(&calls[SESSION_START], STRANDS, SLOT + sizeof invitation, 17);
+    exact_buffer(&calls[WRITE_RESEND], OUT, sizeof list, 17);
+    exact_buffer(&calls[READ_RESEND], LIST, sizeof list, 3);
     end_group("buffers of the exact size are accepted, and all shorter ones refused");
 }
 
@@ -339,6 +360,7 @@ int main(int argc, char **argv) {
     wrong_tables_come_second();
     nothing_at_all();
     first_pair_is_shown();
+    lists_are_the_same();
     reads_may_overlap();
     no_bytes();
     no_bytes_needed();

@@ -10,7 +10,7 @@
 
 /* Every slice that some call is lent. Process 1 begins a search with purpose 3; 2 is invited and then reports. */
 enum slice { BYTES, EVENTS, SHAPE, SENT, RECEIVED, OUT, SET, PAIR, KNOWN, LINE, PARTICIPANT, INVITATION, INITIATOR, REPORT,
-             LENGTHS, SESSION, STRANDS, ORDER, LENGTH, PARTNER, PASSED, ROUNDS, MESSAGES, SLICES };
+             LENGTHS, SESSION, STRANDS, ORDER, LIST, RESEND, LENGTH, PARTNER, PASSED, ROUNDS, MESSAGES, SLICES };
 #define OF(slice) (1u << (slice))
 #define TABLES (OF(SHAPE) | OF(SENT) | OF(RECEIVED))
 
@@ -41,6 +41,8 @@ static const struct kind kinds[SLICES] = {
     {"session", 8, RECOVERY_LINE_SESSION_WORDS, true},
     {"strands", 1, RECOVERY_LINE_STRAND_BYTES(3), false},
     {"order", 8, RECOVERY_LINE_ORDER_WORDS, true},
+    {"list", 1, 9, false},
+    {"resend", 8, RECOVERY_LINE_RESEND_WORDS, true},
     {"length", 8, 1, false},
     {"partner", 8, 1, false},
     {"passed", 8, 1, false},
@@ -60,6 +62,8 @@ static const recovery_line_counter known[RECOVERY_LINE_PROCESSES] = {0, 3, 7};
 static const uint8_t invitation[] = {1, PURPOSE, 1, 1, 1, 0};
 static const uint8_t report[] = {2, PURPOSE, 2, 2, 1, 3, 3, 0};
 static const uint8_t other_report[] = {2, PURPOSE, 3, 2, 1, 7, 2, 0};
+/* On its line 1 2 2 process 1 has received none of the 3 messages that 2 has sent it, and none of the 7 that 3 has. */
+static const uint8_t list[] = {2, 2, 1, 1, 3, 3, 1, 1, 7};
 
 /* What is lent now: where, and how many elements. */
 static struct {
@@ -105,6 +109,10 @@ static uint32_t call_search(void) {
 }
 static uint32_t call_move(void) { return recovery_line_move(LENT_TABLES, PURPOSE, U64(ORDER)); }
 static uint32_t call_restart_order(void) { return recovery_line_restart_order(LENT_TABLES, PURPOSE, U64(ORDER)); }
+static uint32_t call_write_resend(void) {
+    return recovery_line_write_resend(LENT_TABLES, PURPOSE, U8(OUT), NUMBER(LENGTH));
+}
+static uint32_t call_read_resend(void) { return recovery_line_read_resend(3, U8(LIST), U64(RESEND)); }
 
 /* A call, what it is lent to read and to write, and which part of its buffer of bytes it writes when it accepts. */
 struct call {
@@ -114,7 +122,7 @@ struct call {
     size_t from, to;
 };
 enum { READ, JOURNAL, CHECK, WRITE, TEST_SET, TEST_CHECKPOINT, FIND, PARTICIPANT_FIRST, PARTICIPANT_RECEIVE, INITIATOR_BEGIN,
-       INITIATOR_RECEIVE, SESSION_START, SESSION_TURN, SEARCH, MOVE, RESTART_ORDER, CALLS };
+       INITIATOR_RECEIVE, SESSION_START, SESSION_TURN, SEARCH, MOVE, RESTART_ORDER, WRITE_RESEND, READ_RESEND, CALLS };
 static const struct call calls[CALLS] = {
     {"read", call_read, OF(BYTES), TABLES, 0, 0},
     {"journal", call_journal, OF(EVENTS), TABLES, 0, 0},
@@ -133,6 +141,8 @@ static const struct call calls[CALLS] = {
     {"search", call_search, TABLES, OF(LINE) | OF(PASSED) | OF(ROUNDS) | OF(MESSAGES), 0, 0},
     {"move", call_move, 0, TABLES | OF(ORDER), 0, 0},
     {"restart_order", call_restart_order, TABLES, OF(ORDER), 0, 0},
+    {"write_resend", call_write_resend, TABLES, OF(OUT) | OF(LENGTH), 0, sizeof list},
+    {"read_resend", call_read_resend, OF(LIST), OF(RESEND), 0, 0},
 };
 
 #endif

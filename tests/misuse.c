@@ -3,7 +3,7 @@
  * one mistake in place of what is right, it must not. The line `mistakes:` is read by tests/boundary.
  *
  * mistakes: DROPPED_ANSWER DROPPED_TYPED_ANSWER DROPPED_MESSAGE CHECKPOINT_AND_PROCESS PROCESS_FOR_CHECKPOINT
- * mistakes: NUMBER_FOR_PROCESS TABLES_BY_HALVES MACHINES_EXCHANGED
+ * mistakes: NUMBER_FOR_PROCESS TABLES_BY_HALVES MACHINES_EXCHANGED ORDER_FOR_LIST
  */
 #include "rline.h"
 
@@ -47,6 +47,11 @@
 #else
 #define PARTICIPANT &participant
 #endif
+#ifdef ORDER_FOR_LIST
+#define LIST &order
+#else
+#define LIST &resend
+#endif
 
 uint32_t try_all(void);
 
@@ -57,6 +62,8 @@ uint32_t try_all(void) {
     static rline_participant participant;
     static rline_initiator initiator;
     static rline_known known;
+    static rline_order order;
+    static rline_resend resend;
     static rline_message message;
     rline_process process = {1};
     rline_checkpoint checkpoint = {2};
@@ -70,5 +77,8 @@ uint32_t try_all(void) {
     answer += rline_initiator_receive(&initiator, &tables, message, &messages);
     answer += rline_participant_receive(PARTICIPANT, &tables, message, &messages);
     answer += rline_test_checkpoint(&tables, CHECKPOINT, &known, &process);
+    answer += rline_read_resend(&resend, 1, message.bytes, message.length);
+    answer += (uint32_t)rline_order_repeat(&order, process, process).first;
+    answer += (uint32_t)rline_resend_repeat(LIST, process, process).last;
     return answer;
 }

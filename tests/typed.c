@@ -20,6 +20,7 @@ static struct memory {
     rline_process partner;
     rline_search_result search;
     rline_order order;
+    rline_resend resend;
     rline_participant participants[PROCESSES];
     rline_initiator initiator;
     rline_messages messages;
@@ -208,6 +209,7 @@ static void moves(void) {
 
 #include "typed_journal.h"
 #include "typed_machines.h"
+#include "typed_resend.h"
 #include "typed_worker.h"
 
 /* Looks at a process after the last, and at numbers that no process has, where nothing is 0. */
@@ -221,6 +223,10 @@ static void absent_processes(void) {
         expect(rline_checkpoints(&full.tables, none[i]) == 0, "checkpoints", "none of no process");
         expect(rline_set_get(&full.line.set, none[i]).number == 0, "set_get", "none of no process");
         expect(rline_order_get(&full.order, none[i]).after == 0, "order_get", "none of no process");
+        expect(rline_order_repeat(&full.order, none[i], first).last == 0, "order_repeat", "none of no process");
+        expect(rline_order_repeat(&full.order, first, none[i]).first == 0, "order_repeat", "none to no process");
+        expect(rline_resend_repeat(&full.resend, none[i], last).first == 0, "resend_repeat", "none of no process");
+        expect(rline_resend_repeat(&full.resend, last, none[i]).last == 0, "resend_repeat", "none to no process");
         expect(rline_message_to(&full.messages, none[i]).length == 0, "message_to", "none to no process");
         expect(!rline_session_waits(&full.session, none[i]), "session_waits", "not for no process");
         expect(rline_session_candidate(&full.session, none[i]).number == 0, "session_candidate", "none of no process");
@@ -249,6 +255,7 @@ static void no_tables(void) {
     find_both(4);
     search_both(1, PURPOSE, 4);
     move_both(PURPOSE, 4);
+    write_resend_both(PURPOSE, sizeof typed.book, 4);
     begin_both(first, PURPOSE, 4);
     first_both(second, first, PURPOSE, 4);
     start_both(first, PURPOSE, 4);
@@ -265,6 +272,9 @@ int main(void) {
     checkpoints();
     searches();
     moves();
+    lists_are_written();
+    lists_are_read();
+    channels_are_seen();
     journals_in_every_room();
     full_journals();
     wrong_journals();

@@ -75,12 +75,12 @@ static void wrong_journals(void) {
 
 /* Every question has a sentence of its own; other numbers have none. */
 static void sentences(void) {
-    const uint32_t others[] = {21, 99, 101, 256 + 1, UINT32_MAX};
+    const uint32_t others[] = {22, 99, 101, 256 + 1, UINT32_MAX};
     const char *none = recovery_line_question(others[0]);
-    for (uint32_t q = 1; q <= 20; q++) {
+    for (uint32_t q = 1; q <= 21; q++) {
         const char *sentence = recovery_line_question(q);
         expect(sentence[strlen(sentence) - 1] == '?', "question", "is a question");
-        expect(strcmp(sentence, recovery_line_question(q % 20 + 1)) != 0, "question", "is that number's");
+        expect(strcmp(sentence, recovery_line_question(q % 21 + 1)) != 0, "question", "is that number's");
         expect(strcmp(recovery_line_question(others[q % 5]), none) == 0, "question", "is no question");
     }
     expect(strstr(none, "no such question") != NULL, "question", "says that there is none");

@@ -1,3 +1,4 @@
 pub mod Starred
 pub mod Columns
 pub mod InFlight
+pub mod SentAgain

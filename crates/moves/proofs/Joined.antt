@@ -24,9 +24,9 @@ use Rattle.shown.specs.Statements.{ZeroElsewhere}
 use Rattle.shown.proofs.Theorems.{sent-rows-shown, received-rows-shown, shape-shown, accepted-zero-elsewhere}
 use Rattle.restart.specs.declared.Plan.{Plan}
 use Rattle.restart.specs.Plan.{lineCheckpoint, goBefore, areKept, takenOff, planned, applied, moved}
-use Rattle.restart.specs.Values.{numbers, offRows, planOf}
+use Rattle.restart.specs.Values.{numbers, pairRows, planOf}
 use Rattle.restart.specs.Calls.{bookMoved}
-use Rattle.restart.proofs.Values.{number-at, checkpoint-at, off-at, numbers-padded}
+use Rattle.restart.proofs.Values.{number-at, checkpoint-at, pair-at, numbers-padded}
 use Rattle.restart.proofs.Plans.{IsPlan, planned-is-plan}
 use Rattle.plans.proofs.Given.{lineOf, few-processes}
 use Rattle.moves.specs.Parts.{Movable, rowsMoved}
@@ -71,7 +71,7 @@ module _ {shape : Shape} {sent received : List ℕ} (accepted : AreAccepted (len
     movedEntry j r p = counterAt (shape .counts) table j (goBefore v purpose j + r) p - off j p
 
     abbrev listedEntry : ℕ → ℕ → ℕ → ℕ
-    listedEntry j r p = counterAt (shape .counts) table j (chosen lineList j - 1 + r) p - entry (offRows (shape .n) off) j p
+    listedEntry j r p = counterAt (shape .counts) table j (chosen lineList j - 1 + r) p - entry (pairRows (shape .n) off) j p
 
     module _ (none : ZeroElsewhere v (counterAt (shape .counts) table)) where
       -- zeros from which something is taken off stay zeros
@@ -87,7 +87,7 @@ module _ {shape : Shape} {sent received : List ℕ} (accepted : AreAccepted (len
           let was = none j (goBefore v purpose j + r) h (omega arith) (omega (arith, kept-there j h)) in
           rw (checkpoint-at (shape .n) few (lineCheckpoint v purpose) j h)
           (elim (decLt p (shape .n)) [
-            | yes o ↦ rw (off-at (shape .n) few off j p h o)
+            | yes o ↦ rw (pair-at (shape .n) few off j p h o)
             | no o ↦ omega (arith, was .1 p (omega arith) m)
           ])
 
@@ -114,9 +114,9 @@ module _ {shape : Shape} {sent received : List ℕ} (accepted : AreAccepted (len
             (line-there j h, kept-there j h)
 
     rows-of : (table : List ℕ) (off : ℕ → ℕ → ℕ) → ZeroElsewhere v (counterAt (shape .counts) table)
-        → rowsMoved rows table lineList keptList (offRows (shape .n) off) ≡ allRowsTo (areKept v purpose) (movedEntry table off) (shape .n)
+        → rowsMoved rows table lineList keptList (pairRows (shape .n) off) ≡ allRowsTo (areKept v purpose) (movedEntry table off) (shape .n)
     rows-of table off none =
-        ap (λ (s : Shape). rowsMoved (record { shape = s; first = rows .first }) table lineList keptList (offRows (shape .n) off)) same
+        ap (λ (s : Shape). rowsMoved (record { shape = s; first = rows .first }) table lineList keptList (pairRows (shape .n) off)) same
         ∙ rows-are table off none
 
     module _ (plan : Plan) (made : plan ≡ planOf (shape .n) (planned v purpose)) where

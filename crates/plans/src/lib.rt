@@ -1,4 +1,5 @@
-// Document 01, "The move (K 5.4)": what a move will do, as a plan by value, and the restart order. Nothing is changed here.
+// Document 01, "The move (K 5.4)": what a move will do, as a plan by value, and the restart order with what is sent again (02, E5).
+// Nothing is changed here.
 use book::Answer;
 use book::Checkpoint;
 use book::Count;
@@ -8,6 +9,7 @@ use book::Shape;
 use book::TableRows;
 use restart::Order;
 use restart::Plan;
+use restart::Resend;
 use restart::TakenOff;
 ghost use mathlib.Core.Path.{_≡_};
 ghost use Prim.Native.Nat.{_-_, _≤_};
@@ -21,9 +23,9 @@ ghost use Rattle.consistency.specs.Set.{chosen};
 ghost use Rattle.consistency.specs.Given.{Whole, AllNamed};
 ghost use Rattle.matrix.specs.Matrix.{entry};
 ghost use Rattle.finder.specs.Line.{checkpoints};
-ghost use Rattle.restart.specs.Plan.{advances, restarts, lineCheckpoint, planned};
+ghost use Rattle.restart.specs.Plan.{advances, restarts, lineCheckpoint, firstMissing, lastMissing, planned};
 ghost use Rattle.restart.specs.Values.{present, numbers, rowsOf, planOf};
-ghost use Rattle.restart.specs.Calls.{noOrder, moveQuestion, orderGiven};
+ghost use Rattle.restart.specs.Calls.{noResend, noOrder, moveQuestion, orderGiven};
 
 // The answer of `restart_order`; beside a refusal all numbers are zero.
 pub struct OrderAnswer {
@@ -45,6 +47,16 @@ fn restarts(purpose: u64) -> bool
     purpose == 2 || purpose == 3
 }
 
+// Nothing to send again.
+fn no_resend() -> Resend
+    ensures { λ r. ⌜ r ≡ noResend ⌝ }
+{
+    Resend {
+        first: [Count(0); 256],
+        last: [Count(0); 256],
+    }
+}
+
 // The order beside a refusal.
 pub fn no_order() -> Order
     ensures { λ r. ⌜ r ≡ noOrder ⌝ }
@@ -53,6 +65,7 @@ pub fn no_order() -> Order
         from: [Checkpoint(0); 16],
         before: [0; 16],
         after: [0; 16],
+        resend: no_resend(),
     }
 }
 
@@ -109,10 +122,10 @@ fn are_kept(purpose: u64, count: usize, line: Checkpoint) -> usize
     }
 }
 
-// The restart order to a line.
-fn order_to(shape: Shape, line: [Checkpoint; 16], purpose: u64) -> Order
+// The restart order to a line, with what is sent again.
+fn order_to(shape: Shape, line: [Checkpoint; 16], purpose: u64, resend: Resend) -> Order
     requires { ⌜ (shape .n ≤ 16) × AllNamed shape line ⌝ }
-    ensures { λ r. ⌜ r .from ≡ line ⌝ }
+    ensures { λ r. ⌜ (r .from ≡ line) × (r .resend ≡ resend) ⌝ }
     ensures { λ r. ⌜ r .before ≡ numbers (shape .n) (λ j. chosen line j - 1) ⌝ }
     ensures { λ r. ⌜ r .after ≡ numbers (shape .n) (λ j. pick (restarts purpose) (count shape j - chosen line j) 0) ⌝ }
 {
@@ -131,6 +144,7 @@ fn order_to(shape: Shape, line: [Checkpoint; 16], purpose: u64) -> Order
         from: line,
         before,
         after,
+        resend,
     }
 }
 
@@ -150,10 +164,11 @@ fn kept_from(shape: Shape, line: [Checkpoint; 16], purpose: u64) -> [usize; 16]
     kept
 }
 
-// What the line checkpoints had received, a row for each process: what is taken off the receivers' counters.
-fn received_by(rows: TableRows, received: &[Counter], line: [Checkpoint; 16]) -> [Count; 256]
-    requires { ⌜ Whole rows (now received) × AllNamed (rows .shape) line ⌝ }
-    ensures { λ r. ⌜ r ≡ rowsOf (rows .shape .n) (λ j p. counterAt (rows .shape .counts) (now (received .entry)) j (chosen line j) p) ⌝ }
+// The counters of the line checkpoints in one of the tables, a row for each process. Of what they had received: what is taken off the
+// receivers' counters.
+fn line_rows(rows: TableRows, table: &[Counter], line: [Checkpoint; 16]) -> [Count; 256]
+    requires { ⌜ Whole rows (now table) × AllNamed (rows .shape) line ⌝ }
+    ensures { λ r. ⌜ r ≡ rowsOf (rows .shape .n) (λ j p. counterAt (rows .shape .counts) (now (table .entry)) j (chosen line j) p) ⌝ }
 {
     let shape = rows.shape;
     let n = shape.n;
@@ -163,7 +178,7 @@ fn received_by(rows: TableRows, received: &[Counter], line: [Checkpoint; 16]) ->
     while i < n * book::ROW_WIDTH {
         let j = i / book::ROW_WIDTH;
         let p = i % book::ROW_WIDTH;
-        held[i] = book::counter(received, first[j], line[j], Process(p + 1));
+        held[i] = book::counter(table, first[j], line[j], Process(p + 1));
         i += 1;
     }
     held
@@ -183,6 +198,43 @@ fn by_sender(n: usize, received: [Count; 256]) -> [Count; 256]
         i += 1;
     }
     sent
+}
+
+// The first message to send again on a channel, by its two counts; 0 for none.
+fn first_missing(received: Count, sent: Count) -> Count
+    ensures { λ r. ⌜ r .0 ≡ firstMissing (received .0) (sent .0) ⌝ }
+{
+    if received.0 < sent.0 {
+        return Count(received.0 + 1);
+    }
+    Count(0)
+}
+
+// And the last one.
+fn last_missing(received: Count, sent: Count) -> Count
+    ensures { λ r. ⌜ r .0 ≡ lastMissing (received .0) (sent .0) ⌝ }
+{
+    if received.0 < sent.0 {
+        return sent;
+    }
+    Count(0)
+}
+
+// What is sent again on each channel, by what was received on it and what was sent, a row for each sender.
+fn resend_from(n: usize, received: [Count; 256], sent: [Count; 256]) -> Resend
+    requires { ⌜ n ≤ 16 ⌝ }
+    ensures { λ r. ⌜ r .first ≡ rowsOf n (λ a b. firstMissing (entry received a b) (entry sent a b)) ⌝ }
+    ensures { λ r. ⌜ r .last ≡ rowsOf n (λ a b. lastMissing (entry received a b) (entry sent a b)) ⌝ }
+{
+    let mut first = [Count(0); 256];
+    let mut last = [Count(0); 256];
+    let mut i = 0;
+    while i < n * book::ROW_WIDTH {
+        first[i] = first_missing(received[i], sent[i]);
+        last[i] = last_missing(received[i], sent[i]);
+        i += 1;
+    }
+    Resend { first, last }
 }
 
 // The first question of a move that fails: of the tables, then 11; 0 for none.
@@ -207,12 +259,15 @@ pub fn plan_move(rows: TableRows, sent: &[Counter], received: &[Counter], purpos
     let shape = rows.shape;
     let line = line_checkpoints(rows, sent, received, purpose);
     let kept = kept_from(shape, line, purpose);
-    let off_received = received_by(rows, received, line);
+    let off_received = line_rows(rows, received, line);
+    let off_sent = by_sender(shape.n, off_received);
+    let sent_rows = line_rows(rows, sent, line);
+    let resend = resend_from(shape.n, off_sent, sent_rows);
+    let order = order_to(shape, line, purpose, resend);
     let off = TakenOff {
-        sent: by_sender(shape.n, off_received),
+        sent: off_sent,
         received: off_received,
     };
-    let order = order_to(shape, line, purpose);
     Plan {
         line,
         kept,

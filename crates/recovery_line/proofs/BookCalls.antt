@@ -1,10 +1,9 @@
 -- What the calls on books answer and leave, by what the code finds out.
-use mathlib.Core.Path.{_≡_, refl, sym, ap, _∙_}
+use mathlib.Core.Path.{_≡_, _∙_}
 use mathlib.Core.List.{List}
-use Prim.Native.Nat.{ℕ, zero, suc}
-use native.Mathlib.Omega.{arith}
+use Prim.Native.Nat.{ℕ}
 use lib.ListN.{length}
-use Rattle.book.specs.Lent.{lent}
+use Rattle.book.specs.Lent.{Tables, lent}
 use Rattle.book.specs.declared.Answer.{Answer}
 use Rattle.book.specs.declared.Shape.{Shape}
 use Rattle.book.specs.declared.WriteAnswer.{WriteAnswer}
@@ -17,8 +16,9 @@ use Rattle.book.specs.Write as inner
 use Rattle.book.specs.Write.{bytesOf, writeQuestion, bytesWritten, lengthOr}
 use Rattle.words.specs.Plain.{numberOf, shapeIn, shapeWords}
 use Rattle.recovery_line.specs.Books.{shapeQuestion, readAnswer, readShape, readSent, readReceived, checkAnswer, writeAnswer, writeOut, writeLength}
-use Rattle.recovery_line.proofs.Shells.{wrong, asked, kept, put, through}
+use Rattle.recovery_line.proofs.Shells.{wrong, asked}
 use Rattle.recovery_line.proofs.BytesTaken.{taken-wrong, taken-refused, taken-whole}
+use Rattle.recovery_line.proofs.BytesWritten.{written-wrong, written-refused, written-done}
 
 -- ---- read
 
@@ -70,21 +70,9 @@ module _ (shape sent received : List ℕ) {q : ℕ} (same : q ≡ shapeQuestion 
 
 -- ---- write
 
--- what the answer of the call inside says
-length-given : (q long : ℕ) {bytes : ℕ} → lengthOr q long ≡ Length bytes → (q ≡ 0) × (bytes ≡ long)
-length-given zero long e = (refl, cc)
-length-given (suc q) long e = let z : _≡_ {A = ℕ} 0 1 = cc in absurd (omega arith)
-
-refusal-given : (q long : ℕ) {r : ℕ} → lengthOr q long ≡ Refused r → (r ≡ q) × (r ≡ 0 → ⊥)
-refusal-given zero long e = let z : _≡_ {A = ℕ} 0 1 = cc in absurd (omega arith)
-refusal-given (suc q) long {r} e = let f : r ≡ suc q = cc in (f, λ none. absurd (omega arith))
-
 module _ (shape sent received out : List ℕ) (before : ℕ) {q : ℕ} (same : q ≡ shapeQuestion shape) where
-  abbrev inside : ℕ
-  inside = writeQuestion (lent (shapeIn shape) sent received) out
-
-  abbrev long : ℕ
-  long = length (bytesOf (lent (shapeIn shape) sent received))
+  abbrev tables : Tables
+  tables = lent (shapeIn shape) sent received
 
   abbrev Written : ℕ → List ℕ → ℕ → Type 0
   Written r out′ length′ =
@@ -92,37 +80,23 @@ module _ (shape sent received out : List ℕ) (before : ℕ) {q : ℕ} (same : q
       × ((out′ ≡ writeOut shape sent received out) × (length′ ≡ writeLength shape sent received out before))
 
   pub write-wrong : (q ≡ 0 → ⊥) → Written q out before
-  unfolding writeAnswer writeOut writeLength
-  write-wrong some =
-      let e = wrong same (λ _. inside) some in
-      (e, (kept e out _ some, kept e before _ some))
+  unfolding writeAnswer writeOut writeLength bytesWritten
+  write-wrong = written-wrong (writeQuestion tables out) (bytesOf tables) shape out before same
 
   module _ (none : q ≡ 0) {given : Shape} (given-is : given ≡ shapeIn shape) {answer : WriteAnswer}
       (answers : answer ≡ inner.answerToWrite (lent given sent received) out) {out′ : List ℕ} (left : out′ ≡ bytesWritten (lent given sent received) out)
     where
-      answer-is : answer ≡ lengthOr inside long
+      answer-is : answer ≡ lengthOr (writeQuestion tables out) (length (bytesOf tables))
       unfolding inner.answerToWrite
       answer-is = answers ∙ (λ t. inner.answerToWrite (lent (given-is t) sent received) out)
 
-      write-answered : {r : ℕ} → r ≡ inside → r ≡ writeAnswer shape sent received out
-      unfolding writeAnswer
-      write-answered e = asked same (λ _. inside) none e
-
-      buffer : {r : ℕ} → r ≡ inside → out′ ≡ writeOut shape sent received out
-      unfolding writeOut bytesWritten
-      buffer e =
-          through (writeAnswer shape sent received out) inside out _ (write-answered e) e
-          (left ∙ (λ t. bytesWritten (lent (given-is t) sent received) out))
+      left-is : out′ ≡ bytesWritten tables out
+      left-is = left ∙ (λ t. bytesWritten (lent (given-is t) sent received) out)
 
       pub write-refused : {r : ℕ} → answer ≡ Refused r → Written r out′ before
-      unfolding writeLength
-      write-refused refusal =
-          let (e, some) = refusal-given inside long (sym answer-is ∙ refusal) in
-          (write-answered e, (buffer e, kept (write-answered e) before _ some))
+      unfolding writeAnswer writeOut writeLength bytesWritten
+      write-refused = written-refused (writeQuestion tables out) (bytesOf tables) shape out before same none answer-is left-is
 
       pub write-done : {bytes : ℕ} → answer ≡ Length bytes → {length′ : ℕ} → length′ ≡ bytes → Written 0 out′ length′
-      unfolding writeLength
-      write-done counted put-there =
-          let (none-fails, is-long) = length-given inside long (sym answer-is ∙ counted) in
-          let e : 0 ≡ inside = sym none-fails in
-          (write-answered e, (buffer e, put (write-answered e) before _ refl (put-there ∙ is-long)))
+      unfolding writeAnswer writeOut writeLength bytesWritten
+      write-done = written-done (writeQuestion tables out) (bytesOf tables) shape out before same none answer-is left-is

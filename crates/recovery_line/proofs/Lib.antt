@@ -1,9 +1,11 @@
 pub mod Shells
 pub mod BytesTaken
+pub mod BytesWritten
 pub mod BookCalls
 pub mod JournalCalls
 pub mod LineCalls
 pub mod MoveCalls
+pub mod ResendCalls
 pub mod SearchCalls
 pub mod MachineCalls
 pub mod SessionCalls

@@ -4,4 +4,5 @@ pub mod Lines
 pub mod Machines
 pub mod Sessions
 pub mod Moves
+pub mod Resends
 pub mod Version

@@ -1,5 +1,5 @@
 // The library that workers in C, C++ and Rust link: every call of documents 01 and 02 as an exported function over numbers and slices.
-// Shapes, sets, states, sessions and orders cross as words. Every call answers 0, or the number that refuses: first
+// Shapes, sets, states, sessions, orders and lists of what to send again cross as words. Every call answers 0, or the number that refuses: first
 // WRONG_LENGTH for a slice of words, or of sixteen counters, of another length than its own, then the questions of the call inside.
 // include/recovery_line.h declares these functions; `tests/declarations` compares the two.
 mod books;
@@ -7,6 +7,7 @@ mod journals;
 mod lines;
 mod machines;
 mod moved;
+mod resends;
 mod sessions;
 mod version;
 

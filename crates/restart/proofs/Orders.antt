@@ -9,15 +9,16 @@ use Rattle.book.proofs.Questions.{then-none, then-both, ask-yes, asked-yes, kep
 use Rattle.line_theory.specs.OfTables.{viewOf}
 use Rattle.line_theory.proofs.Accepted.{passed-size}
 use Rattle.consistency.specs.Set.{chosen}
+use Rattle.matrix.specs.Matrix.{entry}
 use Rattle.finder.specs.Line.{checkpoints}
 use Rattle.book.specs.Names.{isPurpose}
 use Rattle.book.specs.Lent.{Tables}
 use Rattle.book.specs.Accepted.{AreAccepted}
 use Rattle.restart.specs.declared.Order.{Order}
 use Rattle.restart.specs.Plan.{Planned, planned}
-use Rattle.restart.specs.Values.{present, numbers, orderOf}
+use Rattle.restart.specs.Values.{present, numbers, resendOf, orderOf}
 use Rattle.restart.specs.Calls.{noOrder, moveQuestion, orderGiven}
-use Rattle.restart.proofs.Values.{number-at, checkpoint-at}
+use Rattle.restart.proofs.Values.{number-at, checkpoint-at, pair-at}
 
 module _ (t : Tables) (purpose : ℕ) where
   pub move-passes : tablesQuestion t ≡ 0 → isPurpose purpose ≡ true → moveQuestion t purpose ≡ 0
@@ -62,6 +63,20 @@ module _ (t : Tables) (purpose : ℕ) where
     pub order-after : order .after ≡ numbers (t .shape .n) (plan .after)
     unfolding orderOf
     order-after = ap (λ (o : Order). o .after) order-given
+
+    pub order-resend : order .resend ≡ resendOf (t .shape .n) plan
+    unfolding orderOf
+    order-resend = ap (λ (o : Order). o .resend) order-given
+
+    -- what is sent again on a channel
+    module _ (a b : ℕ) (h : a < t .shape .n) (m : b < t .shape .n) where
+      pub first-at : entry (order .resend .first) a b ≡ plan .first a b
+      unfolding resendOf
+      first-at = rw order-resend (pair-at (t .shape .n) few (plan .first) a b h m)
+
+      pub last-at : entry (order .resend .last) a b ≡ plan .last a b
+      unfolding resendOf
+      last-at = rw order-resend (pair-at (t .shape .n) few (plan .last) a b h m)
 
     module _ (j : ℕ) (h : j < t .shape .n) where
       pub from-at : chosen (order .from) j ≡ plan .line j

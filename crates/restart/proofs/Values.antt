@@ -18,7 +18,7 @@ use Rattle.matrix.specs.Matrix.{asMatrix, entry}
 use Rattle.matrix.proofs.Rows.{entry-of-matrix}
 use Rattle.finder.specs.Line.{checkpoints}
 use Rattle.finder.proofs.Sixteen.{chosen-there}
-use Rattle.restart.specs.Values.{present, numbers, rowsOf, offRows}
+use Rattle.restart.specs.Values.{present, numbers, rowsOf, pairRows}
 
 -- ---- of processes that there are
 
@@ -39,8 +39,12 @@ module _ (n : ℕ) (few : n ≤ 16) where
   unfolding rowsOf
   row-none f j p none h m = entry-of-matrix (λ j p. present n (λ i. f i p) j) j p h m ∙ rw (le-ltb j n none)
 
-  pub off-at : (off : ℕ → ℕ → ℕ) (j p : ℕ) → j < n → p < n → entry (offRows n off) j p ≡ off j p
-  off-at off j p h o = row-at (λ j p. present n (off j) p) j p h (omega arith) ∙ rw (lt-ltb p n o)
+  pub pair-at : (f : ℕ → ℕ → ℕ) (j p : ℕ) → j < n → p < n → entry (pairRows n f) j p ≡ f j p
+  pair-at f j p h o = row-at (λ j p. present n (f j) p) j p h (omega arith) ∙ rw (lt-ltb p n o)
+
+  -- nor a column
+  pub pair-none : (f : ℕ → ℕ → ℕ) (j p : ℕ) → j < n → n ≤ p → p < 16 → entry (pairRows n f) j p ≡ 0
+  pair-none f j p h none m = row-at (λ j p. present n (f j) p) j p h m ∙ rw (le-ltb p n none)
 
   -- sixteen numbers are those of the processes, and zeros after them
   pub numbers-padded : (f : ℕ → ℕ) → numbers n f ≡ padded 16 (tab n f)

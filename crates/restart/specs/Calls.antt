@@ -14,12 +14,23 @@ use Rattle.finder.specs.Line.{noLine}
 use Rattle.book.specs.Names.{isPurpose}
 use Rattle.shown.specs.Shown.{bookShown}
 use Rattle.restart.specs.declared.Order.{Order}
+use Rattle.restart.specs.declared.Resend.{Resend}
 use Rattle.restart.specs.Plan.{planned, moved}
-use Rattle.restart.specs.Values.{orderOf}
+use Rattle.restart.specs.Values.{matrixEntries, orderOf}
+
+-- a list with nothing to send again
+abbrev pub noResend : Resend
+noResend = record { first = replicate matrixEntries (record { 0 = 0 }); last = replicate matrixEntries (record { 0 = 0 }) }
 
 -- the order beside a refusal
 abbrev pub noOrder : Order
-noOrder = record { from = noLine; before = replicate mostProcesses 0; after = replicate mostProcesses 0 }
+noOrder =
+    record {
+      from = noLine;
+      before = replicate mostProcesses 0;
+      after = replicate mostProcesses 0;
+      resend = noResend;
+    }
 
 module _ (tables : Tables) (purpose : ℕ) where
   unfoldable pub moveQuestion : ℕ

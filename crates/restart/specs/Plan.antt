@@ -1,8 +1,9 @@
--- Document 01, "The move (K 5.4)", and document 02, E4, on the abstract view of a book: a plan, which says of each process what stays, what goes and what
--- is taken off, and then its application. Processes and partners count from 0, checkpoints from 1, the oldest.
+-- Document 01, "The move (K 5.4)", and document 02, E4 and E5, on the abstract view of a book: a plan, which says of each process what stays
+-- and what goes, and of each channel what is taken off and what is sent again; and then its application. Processes and partners count
+-- from 0, checkpoints from 1, the oldest.
 use mathlib.Core.Bool.{Bool, _||_}
 use Prim.Native.Nat.{ℕ, _+_, _-_}
-use lib.Dec.{eqb}
+use lib.Dec.{eqb, ltb}
 use Rattle.line_theory.specs.Sets.{View}
 use Rattle.line_theory.specs.Search.{line}
 use Rattle.lists.specs.Pick.{pick}
@@ -16,6 +17,14 @@ advances purpose = eqb purpose 1 || eqb purpose 3
 abbrev pub restarts : ℕ → Bool
 restarts purpose = eqb purpose 2 || eqb purpose 3
 
+-- Document 02, E5: "for each channel whose line .. sent more than was received, from one past the received count to the sent count", by
+-- these two counts; 0 for none
+abbrev pub firstMissing : ℕ → ℕ → ℕ
+firstMissing received sent = pick (ltb received sent) (received + 1) 0
+
+abbrev pub lastMissing : ℕ → ℕ → ℕ
+lastMissing received sent = pick (ltb received sent) sent 0
+
 -- a plan of a move
 pub record Planned : Type 0 where
   -- process j's line checkpoint, which is its oldest afterwards
@@ -26,6 +35,10 @@ pub record Planned : Type 0 where
   pub kept : ℕ → ℕ
   -- what is taken off the channel from process a to process b, at both its ends
   pub off : ℕ → ℕ → ℕ
+  -- which messages of that channel are sent again, the first and the last, numbered from 1 as the book's counters count them: "as counted
+  -- before the move"
+  pub first : ℕ → ℕ → ℕ
+  pub last : ℕ → ℕ → ℕ
 
 module _ (v : View) (purpose : ℕ) where
   -- a process's "line checkpoint": the line's, and "with 2 that is checkpoint 1"
@@ -44,10 +57,16 @@ module _ (v : View) (purpose : ℕ) where
   abbrev pub areKept : ℕ → ℕ
   areKept j = pick (restarts purpose) 1 (v .count j - goBefore j)
 
-  -- Document 02, E4: "a move takes off, at both ends of a channel, what the receiver's line checkpoint had received": of the
-  -- channel from process a to process b
+  -- on the channel from process a to process b: what the sender's line checkpoint had sent, and what the receiver's had received
+  abbrev pub lineSent : ℕ → ℕ → ℕ
+  lineSent a b = v .S a (lineCheckpoint a) b
+
+  abbrev pub lineReceived : ℕ → ℕ → ℕ
+  lineReceived a b = v .R b (lineCheckpoint b) a
+
+  -- Document 02, E4: "a move takes off, at both ends of a channel, what the receiver's line checkpoint had received"
   abbrev pub takenOff : ℕ → ℕ → ℕ
-  takenOff a b = v .R b (lineCheckpoint b) a
+  takenOff a b = lineReceived a b
 
   unfoldable pub planned : Planned
   planned =
@@ -57,6 +76,8 @@ module _ (v : View) (purpose : ℕ) where
         after = goAfter;
         kept = areKept;
         off = takenOff;
+        first = λ a b. firstMissing (lineReceived a b) (lineSent a b);
+        last = λ a b. lastMissing (lineReceived a b) (lineSent a b);
       }
 
 -- The book as a plan leaves it: what is then checkpoint r was checkpoint `before` + r. Of the channel from j to p process j is the

@@ -2,12 +2,20 @@
 use book::Checkpoint;
 use book::Count;
 
+// What to send again (document 02, E5): for each channel the number of the first message and of the last, as counted before the move.
+// A row for each sender, a column for each receiver; 0 where nothing is sent again.
+pub struct Resend {
+    pub first: [Count; 256],
+    pub last: [Count; 256],
+}
+
 // A restart order: for each process the checkpoint restarted from, numbered as before the move, and how many go before and after
-// it. Absent processes have 0.
+// it, absent processes with 0; and what to send again.
 pub struct Order {
     pub from: [Checkpoint; 16],
     pub before: [usize; 16],
     pub after: [usize; 16],
+    pub resend: Resend,
 }
 
 // What a move takes off the counters of each process, of what it sent and of what it received: a row of sixteen for each, one

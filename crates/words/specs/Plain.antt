@@ -1,4 +1,4 @@
--- Shapes, sets, lengths, orders and pairs as words; and counters that are lent beside the tables.
+-- Shapes, sets, lengths, orders, lists of what to send again and pairs as words; and counters that are lent beside the tables.
 use mathlib.Core.List.{List, [], _∷_, _++_}
 use mathlib.Core.Option.{Option, none, some}
 use Prim.Native.Nat.{ℕ, suc}
@@ -13,7 +13,8 @@ use Rattle.lists.specs.Over.{tab}
 use Rattle.consistency.specs.Set.{chosen}
 use Rattle.finder.specs.Line.{checkpoints}
 use Rattle.restart.specs.declared.Order.{Order}
-use Rattle.words.specs.Words.{word, sixteenAt, shapeCountsAt}
+use Rattle.restart.specs.declared.Resend.{Resend}
+use Rattle.words.specs.Words.{word, sixteenAt, shapeCountsAt, matrixLength, countWords}
 
 -- an answer as a number: 0, or the question that refuses
 abbrev pub numberOf : Answer → ℕ
@@ -47,6 +48,11 @@ pairWords (some pair) = suc (pair .0) ∷ (suc (pair .1) ∷ [])
 abbrev pub countsIn : List ℕ → List Count
 countsIn entries = tab {A = Count} mostProcesses (λ i. record { 0 = getD entries i 0 })
 
--- the checkpoints restarted from, how many go before, and how many after
+-- what to send again: the first messages, and the last ones
+unfoldable pub resendWords : Resend → List ℕ
+resendWords resend = countWords matrixLength (resend .first) ++ countWords matrixLength (resend .last)
+
+-- the checkpoints restarted from, how many go before, how many after, and what to send again
 unfoldable pub orderWords : Order → List ℕ
-orderWords order = setWords (order .from) ++ (numberWords (order .before) ++ numberWords (order .after))
+orderWords order =
+    setWords (order .from) ++ (numberWords (order .before) ++ (numberWords (order .after) ++ resendWords (order .resend)))

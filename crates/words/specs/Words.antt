@@ -29,19 +29,29 @@ pairLength = 2
 abbrev pub lengthsLength : ℕ
 lengthsLength = mostProcesses
 
--- an order: the checkpoints restarted from, how many go before, and how many after
+-- the counters of a matrix, a row for each sender
+abbrev pub matrixLength : ℕ
+matrixLength = mostProcesses * mostProcesses
+
+-- what to send again: the first messages, and the last ones
+abbrev pub resendLastAt : ℕ
+resendLastAt = matrixLength
+
+abbrev pub resendLength : ℕ
+resendLength = resendLastAt + matrixLength
+
+-- an order: the checkpoints restarted from, how many go before, how many after, and what to send again
 abbrev pub orderBeforeAt : ℕ
 orderBeforeAt = setLength
 
 abbrev pub orderAfterAt : ℕ
 orderAfterAt = orderBeforeAt + mostProcesses
 
-abbrev pub orderLength : ℕ
-orderLength = orderAfterAt + mostProcesses
+abbrev pub orderResendAt : ℕ
+orderResendAt = orderAfterAt + mostProcesses
 
--- the counters of a matrix, a row for each sender
-abbrev pub matrixLength : ℕ
-matrixLength = mostProcesses * mostProcesses
+abbrev pub orderLength : ℕ
+orderLength = orderResendAt + resendLength
 
 -- a slice of words, or of sixteen counters lent beside the tables, of another length is refused by this number, before every
 -- question

@@ -10,12 +10,19 @@ pub const PAIR_WORDS: usize = 2;
 
 pub const LENGTHS_WORDS: usize = book::MOST_PROCESSES;
 
-// After the checkpoints restarted from: how many go before, and how many after.
+// What to send again: the first messages, and the last ones.
+pub const RESEND_LAST_AT: usize = matrix::ENTRIES;
+
+pub const RESEND_WORDS: usize = RESEND_LAST_AT + matrix::ENTRIES;
+
+// After the checkpoints restarted from: how many go before, how many after, and what to send again.
 pub const ORDER_BEFORE_AT: usize = SET_WORDS;
 
 pub const ORDER_AFTER_AT: usize = ORDER_BEFORE_AT + book::MOST_PROCESSES;
 
-pub const ORDER_WORDS: usize = ORDER_AFTER_AT + book::MOST_PROCESSES;
+pub const ORDER_RESEND_AT: usize = ORDER_AFTER_AT + book::MOST_PROCESSES;
+
+pub const ORDER_WORDS: usize = ORDER_RESEND_AT + RESEND_WORDS;
 
 // A participant's state, n first.
 pub const PARTICIPANT_PROCESS_AT: usize = 1;

@@ -7,13 +7,14 @@ use book::Count;
 use book::Counter;
 use book::Shape;
 use restart::Order;
+use restart::Resend;
 ghost use mathlib.Core.Path.{_≡_};
 ghost use Prim.Native.Nat.{_+_, _≤_};
 ghost use lib.ListN.{length};
 ghost use lib.Seq.{sets};
 ghost use Rattle.book.specs.Bounds.{mostProcesses};
-ghost use Rattle.words.specs.Words.{shapeLength, setLength, orderLength, matrixLength, allBelow, counterIn, tallyIn, sixteenAt, countsAt, countWords};
-ghost use Rattle.words.specs.Plain.{numberOf, shapeIn, shapeWords, setIn, countsIn, numberWords, setWords, orderWords};
+ghost use Rattle.words.specs.Words.{shapeLength, setLength, resendLength, orderLength, matrixLength, allBelow, counterIn, tallyIn, sixteenAt, countsAt, countWords};
+ghost use Rattle.words.specs.Plain.{numberOf, shapeIn, shapeWords, setIn, countsIn, numberWords, setWords, resendWords, orderWords};
 
 // What a counter's word is below: a counter is at most the mark for "not known".
 pub const COUNTER_BOUND: u64 = book::MARK + 1;
@@ -222,6 +223,17 @@ pub fn put_shape(shape: Shape, words: &mut [u64])
     put_numbers(counts, words, layout::SHAPE_COUNTS_AT);
 }
 
+// What to send again, to a place on.
+pub fn put_resend(resend: Resend, words: &mut [u64], at: usize)
+    requires { ⌜ at + resendLength ≤ length (now words) ⌝ }
+    ensures { λ _. ⌜ now (words .exit) ≡ sets (now (words .entry)) at (resendWords resend) ⌝ }
+{
+    let first = resend.first;
+    let last = resend.last;
+    put_matrix(first, words, at);
+    put_matrix(last, words, at + layout::RESEND_LAST_AT);
+}
+
 // An order, to a slice of its length.
 pub fn put_order(order: Order, words: &mut [u64])
     requires { ⌜ length (now words) ≡ orderLength ⌝ }
@@ -230,7 +242,9 @@ pub fn put_order(order: Order, words: &mut [u64])
     let from = order.from;
     let before = order.before;
     let after = order.after;
+    let resend = order.resend;
     put_set(from, words, 0);
     put_numbers(before, words, layout::ORDER_BEFORE_AT);
     put_numbers(after, words, layout::ORDER_AFTER_AT);
+    put_resend(resend, words, layout::ORDER_RESEND_AT);
 }

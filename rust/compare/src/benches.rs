@@ -1,58 +1,17 @@
 //! Operations to be measured, on the library through its C interface, and on the independent implementation through the
 //! structs that a Rust program would use. Both get the same input and keep their buffers from call to call.
 
+use crate::bench_inputs::{lent_for, sent_to_first, set_of, FIRST, INITIATOR, PURPOSE};
 use crate::book::Book;
 use crate::call::Call;
 use crate::claims::waiting;
-use crate::layout::{initiator, participant, session, slot_start};
-use crate::layout::{strand_bytes, Counter, BOOK_BYTES, ORDER_WORDS, PAIR_WORDS, PROCESSES, SET_WORDS};
+use crate::layout::{initiator, participant, session, slot_start, Counter, PROCESSES, SET_WORDS};
 use crate::lent::{Guarded, Lent};
-use crate::line::line;
-use crate::move_claims::ADVANCE;
 use crate::ours;
-use crate::scenarios::lent_tables;
 use reference::{Session, Shape};
 use std::hint::black_box;
 
-/// What is measured.
-#[derive(Clone, Copy, PartialEq, Eq, Debug)]
-pub enum Operation {
-    Read,
-    Journal,
-    Check,
-    Write,
-    /// The line, so that every pair is looked at.
-    TestSet,
-    /// The newest set.
-    TestNewest,
-    /// The first process's newest checkpoint, against what the others' newest had sent to it.
-    TestCheckpoint,
-    Find,
-    /// One turn that delivers the first poll or report after some others.
-    Turn,
-    /// The same message, a poll, received by the participant's machine alone.
-    ParticipantReceive,
-    /// The same message, a report, received by the initiator's machine alone.
-    InitiatorReceive,
-    /// A start and turns until nothing waits, lowest strand first.
-    Session,
-    Search,
-    /// A move with purpose 3.
-    Move,
-    /// A move with purpose 1.
-    Advance,
-}
-
-impl Operation {
-    /// The purpose of a move.
-    fn purpose(self) -> u64 {
-        if self == Operation::Advance {
-            ADVANCE
-        } else {
-            PURPOSE
-        }
-    }
-}
+pub use crate::bench_inputs::Operation;
 
 /// What the independent implementation works on.
 struct Native {
@@ -76,13 +35,6 @@ pub struct Bench {
     kept: Lent,
     kept_session: Option<Session>,
 }
-
-/// All measured searches are begun by this process with this purpose.
-const INITIATOR: u64 = 1;
-const PURPOSE: u64 = 3;
-
-/// The process whose checkpoint is tested.
-const FIRST: u64 = 1;
 
 impl Bench {
     /// An operation on a book; a turn, or what a machine receives, is the one after so many others.
@@ -128,6 +80,18 @@ impl Bench {
     /// A read of a journal.
     pub fn of_journal(bytes: &[u8]) -> Self {
         let mut bench = Bench::new(Operation::Journal, &Book::of_zeros(&[1]), 0);
+        bench.lent.bytes = Guarded::holding(bytes);
+        bench.native.bytes = bytes.to_vec();
+        bench
+    }
+
+    /// A read of the list of a book's order.
+    pub fn of_list(book: &Book) -> Self {
+        let mut writing = Bench::new(Operation::WriteResend, book, 0);
+        writing.run_ours();
+        let length = writing.lent.numbers[0] as usize;
+        let bytes = &writing.lent.out.lent()[..length];
+        let mut bench = Bench::new(Operation::ReadResend, book, 0);
         bench.lent.bytes = Guarded::holding(bytes);
         bench.native.bytes = bytes.to_vec();
         bench
@@ -201,6 +165,9 @@ impl Bench {
             Operation::Find => Call::Find,
             Operation::Search => Call::Search,
             Operation::Move | Operation::Advance => Call::Move,
+            Operation::RestartOrder => Call::RestartOrder,
+            Operation::WriteResend => Call::WriteResend,
+            Operation::ReadResend => Call::ReadResend,
             Operation::ParticipantReceive => Call::ParticipantReceive,
             Operation::InitiatorReceive => Call::InitiatorReceive,
             Operation::Turn => return self.turn_ours(self.turn),
@@ -259,6 +226,9 @@ impl Bench {
             Operation::Move | Operation::Advance => {
                 black_box(reference::move_line(shape, sent, received, self.operation.purpose())).is_ok()
             }
+            Operation::RestartOrder => black_box(reference::restart_order(shape, sent, received, PURPOSE)).is_ok(),
+            Operation::WriteResend => black_box(reference::write_resend(shape, sent, received, PURPOSE, out)).is_ok(),
+            Operation::ReadResend => black_box(reference::read_resend(shape.n, bytes)).is_ok(),
             Operation::Turn => return self.turn_theirs(self.turn),
             Operation::ParticipantReceive | Operation::InitiatorReceive => return self.receive_theirs(),
             Operation::Session => return self.session_theirs(),
@@ -337,50 +307,4 @@ impl Bench {
 /// The session that a turn, or a machine of it, goes on with.
 fn started(session: &mut Option<Session>) -> &mut Session {
     session.as_mut().expect("a session was started")
-}
-
-/// What an operation is lent through the C interface.
-fn lent_for(operation: Operation, book: &Book) -> Lent {
-    let mut lent = lent_tables(book);
-    lent.bytes = Guarded::holding(&book.bytes());
-    lent.set = Guarded::holding(&set_of(operation, book));
-    lent.known = Guarded::holding(&sent_to_first(book));
-    lent.out = Guarded::fresh(match operation {
-        Operation::Write => BOOK_BYTES,
-        _ => strand_bytes(book.n()),
-    });
-    lent.state = Guarded::fresh(session::WORDS);
-    lent.result = Guarded::fresh(match operation {
-        Operation::TestSet | Operation::TestNewest => PAIR_WORDS,
-        Operation::Move | Operation::Advance => ORDER_WORDS,
-        _ => SET_WORDS,
-    });
-    lent.names = match operation {
-        Operation::Move | Operation::Advance => [operation.purpose(), 0, 0],
-        Operation::TestCheckpoint => [FIRST, book.count(1) as u64, 0],
-        _ => [INITIATOR, PURPOSE, 0],
-    };
-    lent
-}
-
-/// The set that an operation tests.
-fn set_of(operation: Operation, book: &Book) -> [u64; SET_WORDS] {
-    let set = match operation {
-        Operation::TestNewest => book.newest(),
-        _ => line(book),
-    };
-    let mut words = [0; SET_WORDS];
-    for (word, r) in words.iter_mut().zip(set) {
-        *word = r as u64;
-    }
-    words
-}
-
-/// What every process's newest checkpoint had sent to the first process.
-fn sent_to_first(book: &Book) -> [Counter; PROCESSES] {
-    let mut known = [0; PROCESSES];
-    for (p, entry) in (1..=book.n()).zip(&mut known) {
-        *entry = book.sent[book.place(p, book.count(p), 1)];
-    }
-    known
 }

@@ -19,10 +19,12 @@ pub enum Call {
     Search,
     Move,
     RestartOrder,
+    WriteResend,
+    ReadResend,
 }
 
 /// All calls, in the order of the header.
-pub const CALLS: [Call; 16] = [
+pub const CALLS: [Call; 18] = [
     Call::Read,
     Call::Journal,
     Call::Check,
@@ -39,13 +41,15 @@ pub const CALLS: [Call; 16] = [
     Call::Search,
     Call::Move,
     Call::RestartOrder,
+    Call::WriteResend,
+    Call::ReadResend,
 ];
 
 /// The answer of a call that is lent a slice of words, or of sixteen counters, of the wrong length.
 pub const WRONG_LENGTH: u32 = 100;
 
 /// All answers: accepted, the questions, and the wrong length.
-pub const ANSWERS: [u32; 22] = [
+pub const ANSWERS: [u32; 23] = [
     0,
     1,
     2,
@@ -67,6 +71,7 @@ pub const ANSWERS: [u32; 22] = [
     18,
     19,
     20,
+    21,
     WRONG_LENGTH,
 ];
 
@@ -90,6 +95,8 @@ impl Call {
             Call::Search => "search",
             Call::Move => "move",
             Call::RestartOrder => "restart_order",
+            Call::WriteResend => "write_resend",
+            Call::ReadResend => "read_resend",
         }
     }
 
@@ -107,12 +114,14 @@ impl Call {
             Call::InitiatorBegin | Call::SessionStart => &[10, 11, 17],
             Call::SessionTurn => &[10, 11, 13, 17, 18],
             Call::Move | Call::RestartOrder => &[11],
+            Call::WriteResend => &[11, 17],
+            Call::ReadResend => &[3, 4, 10, 21],
         }
     }
 
     /// Whether the call can give this answer.
     pub fn can_answer(self, answer: u32) -> bool {
-        let of_tables = !self.fills_tables() && [2, 4, 5, 6, 7, 8, 9].contains(&answer);
+        let of_tables = self.reads_tables() && [2, 4, 5, 6, 7, 8, 9].contains(&answer);
         answer == 0 || answer == WRONG_LENGTH || of_tables || self.own_questions().contains(&answer)
     }
 
@@ -121,12 +130,17 @@ impl Call {
         matches!(self, Call::Read | Call::Journal)
     }
 
+    /// Whether the call puts the questions of tables.
+    pub fn reads_tables(self) -> bool {
+        !self.fills_tables() && self != Call::ReadResend
+    }
+
     /// How many of `Lent::names` the call is given.
     pub fn names(self) -> usize {
         match self {
             Call::ParticipantFirst => 3,
             Call::TestCheckpoint | Call::InitiatorBegin | Call::SessionStart | Call::Search => 2,
-            Call::SessionTurn | Call::Move | Call::RestartOrder => 1,
+            Call::SessionTurn | Call::Move | Call::RestartOrder | Call::WriteResend | Call::ReadResend => 1,
             _ => 0,
         }
     }
@@ -136,6 +150,7 @@ impl Call {
         matches!(
             self,
             Call::Write
+                | Call::WriteResend
                 | Call::ParticipantReceive
                 | Call::InitiatorBegin
                 | Call::InitiatorReceive

@@ -114,6 +114,10 @@ pub fn change_word_lengths(random: &mut Random, call: Call, lent: &mut Lent) {
         lent.known = of_another_length(random, &lent.known);
         return;
     }
+    if call == Call::ReadResend {
+        lent.result = of_another_length(random, &lent.result);
+        return;
+    }
     let mut slices: Vec<&mut Guarded<u64>> = vec![&mut lent.shape];
     if call.takes_state() || matches!(call, Call::ParticipantFirst | Call::InitiatorBegin | Call::SessionStart) {
         slices.push(&mut lent.state);

@@ -29,8 +29,12 @@ pub const SHAPE_WORDS: usize = 1 + PROCESSES;
 pub const SET_WORDS: usize = PROCESSES;
 /// Words of a pair at fault.
 pub const PAIR_WORDS: usize = 2;
-/// Words of a restart order.
-pub const ORDER_WORDS: usize = 3 * PROCESSES;
+/// Words of a list of what to send again, and where its last messages begin.
+pub const RESEND_LAST: usize = PROCESSES * PROCESSES;
+pub const RESEND_WORDS: usize = 2 * RESEND_LAST;
+/// Where that list begins in a restart order, and all words of one.
+pub const ORDER_RESEND: usize = 3 * PROCESSES;
+pub const ORDER_WORDS: usize = ORDER_RESEND + RESEND_WORDS;
 
 /// Places in a participant's words.
 pub mod participant {
@@ -88,7 +92,9 @@ pub mod session {
 const _: () = assert!(participant::WORDS == sys::RECOVERY_LINE_PARTICIPANT_WORDS);
 const _: () = assert!(initiator::WORDS == sys::RECOVERY_LINE_INITIATOR_WORDS);
 const _: () = assert!(session::WORDS == sys::RECOVERY_LINE_SESSION_WORDS);
+const _: () = assert!(ORDER_WORDS == sys::RECOVERY_LINE_ORDER_WORDS);
 const _: () = assert!(strand_bytes(16) == sys::RECOVERY_LINE_STRAND_BYTES(16));
+const _: () = assert!(RESEND_BYTES == sys::RECOVERY_LINE_MOST_RESEND_BYTES);
 
 /// Puts a number at each of some places.
 pub fn put(words: &mut [u64], numbers: &[(usize, u64)]) {
@@ -109,6 +115,10 @@ pub const fn message_bytes(n: usize) -> usize {
 pub const fn strand_bytes(n: usize) -> usize {
     (n - 1) * message_bytes(n)
 }
+
+/// Bytes of the longest list of what to send again: a count of two, and for each channel two processes of one byte each and two
+/// numbers.
+pub const RESEND_BYTES: usize = 2 + PROCESSES * (PROCESSES - 1) * (2 + 2 * GROUPS);
 
 /// Where the slot of participant `p`'s strand begins.
 pub fn slot_start(n: usize, initiator: usize, p: usize) -> usize {

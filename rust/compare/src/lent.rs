@@ -1,7 +1,7 @@
 //! What one call is lent: every slice and number of any call of the interface in one struct, so that two
 //! implementations can be run on equal copies and the copies be compared whole.
 
-use crate::layout::{Counter, SHAPE_WORDS, TABLE_ENTRIES};
+use crate::layout::{Counter, RESEND_WORDS, SHAPE_WORDS, TABLE_ENTRIES};
 
 /// Elements that stand before and after what is lent; a write outside the lent part shows there.
 const MARGIN: usize = 4;
@@ -78,9 +78,9 @@ pub struct Lent {
     pub shape: Guarded<u64>,
     pub sent: Guarded<Counter>,
     pub received: Guarded<Counter>,
-    /// A book, a journal or a message to be read.
+    /// A book, a journal, a message or a list to be read.
     pub bytes: Guarded<u8>,
-    /// Where messages or a book are written; a session's strands.
+    /// Where messages, a book or a list are written; a session's strands.
     pub out: Guarded<u8>,
     /// The words of a machine or a session.
     pub state: Guarded<u64>,
@@ -88,9 +88,9 @@ pub struct Lent {
     pub set: Guarded<u64>,
     /// What each process is known to have sent.
     pub known: Guarded<Counter>,
-    /// Where lengths, a pair, a line or an order are written.
+    /// Where lengths, a pair, a line, an order or a list are written.
     pub result: Guarded<u64>,
-    /// Process numbers, a checkpoint and a purpose, in the order of the call's parameters.
+    /// Process numbers, a checkpoint and a purpose, or n, in the order of the call's parameters.
     pub names: [u64; 3],
     /// Where single numbers are written, in the order of the call's parameters.
     pub numbers: [u64; 3],
@@ -121,6 +121,15 @@ impl Lent {
         lent.sent = Guarded::fresh(TABLE_ENTRIES);
         lent.received = Guarded::fresh(TABLE_ENTRIES);
         lent.bytes = Guarded::holding(bytes);
+        lent
+    }
+
+    /// A list to be read, among n processes, into fresh words.
+    pub fn to_read_list(n: u64, bytes: &[u8]) -> Self {
+        let mut lent = Lent::tables(&[], &[], &[]);
+        lent.names[0] = n;
+        lent.bytes = Guarded::holding(bytes);
+        lent.result = Guarded::fresh(RESEND_WORDS);
         lent
     }
 

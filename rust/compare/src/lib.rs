@@ -1,6 +1,7 @@
 //! The library, through its C interface, against an independent implementation: differential runs, the claims of
 //! demand 3 on random sessions, those of document 02's requests, and every order of messages of small books.
 
+pub mod bench_inputs;
 pub mod benches;
 pub mod book;
 pub mod books;
@@ -10,16 +11,19 @@ pub mod changed_states;
 pub mod claims;
 pub mod damaged_books;
 pub mod damaged_journals;
+pub mod damaged_lists;
 pub mod damaged_tables;
 pub mod explore;
 pub mod families;
 pub mod forged;
+pub mod growth;
 pub mod journal_claims;
 pub mod journal_scenarios;
 pub mod journals;
 pub mod layout;
 pub mod lent;
 pub mod line;
+pub mod lists;
 pub mod machine_scenarios;
 pub mod made;
 pub mod measured_books;
@@ -32,6 +36,8 @@ pub mod ours;
 pub mod pair_claims;
 pub mod places;
 pub mod random;
+pub mod resend_claims;
+pub mod resend_scenarios;
 pub mod runner;
 pub mod scenarios;
 pub mod session_scenarios;

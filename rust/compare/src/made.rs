@@ -1,8 +1,9 @@
-//! Books made by the Rust wrapper: checkpoint by checkpoint, and event by event.
+//! Books made by the Rust wrapper, checkpoint by checkpoint and event by event, and lists read by it.
 
 use crate::book::Book;
 use crate::journals::{Journal, RECEIVED, SENT};
-use recovery_line::{BookBuilder, Count, Process, Refusal, Tables};
+use crate::lists::{Entry, List};
+use recovery_line::{BookBuilder, Count, Process, Refusal, Resend, Tables};
 
 /// The book that the builder makes of a book's checkpoints: the oldest of all processes come first, and of processes the last.
 /// Counters that are as in the checkpoint before, or zero in an oldest one, are not named.
@@ -48,6 +49,21 @@ pub fn by_events(journal: &Journal) -> recovery_line::Journal {
         };
     }
     made
+}
+
+/// The list that the wrapper reads, entry by entry.
+pub fn list_read(n: u64, bytes: &[u8]) -> Result<List, Refusal> {
+    let resend = Resend::read(n, bytes)?;
+    let entries = resend.iter().map(|repeat| Entry {
+        sender: repeat.sender.number(),
+        receiver: repeat.receiver.number(),
+        first: repeat.first.number(),
+        last: repeat.last.number(),
+    });
+    Ok(List {
+        n,
+        entries: entries.collect(),
+    })
 }
 
 /// The book in the wrapper's tables.

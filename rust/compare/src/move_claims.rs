@@ -1,7 +1,7 @@
 //! What is claimed of a move: which checkpoints it keeps, and what it takes off their counters.
 
 use crate::book::Book;
-use crate::layout::{participants, PROCESSES};
+use crate::layout::{participants, ORDER_RESEND, PROCESSES};
 use crate::line::line;
 use std::fmt;
 
@@ -46,14 +46,18 @@ impl<'a> Step<'a> {
         self.book.received_at(receiver, self.from[receiver - 1], sender)
     }
 
+    /// What the sender's checkpoint that becomes the oldest had sent on a channel.
+    pub fn sent(&self, sender: usize, receiver: usize) -> u64 {
+        self.book.sent_at(sender, self.from[sender - 1], receiver)
+    }
+
     /// What the checkpoints that become the oldest had sent on a channel and not received.
     fn in_flight(&self, sender: usize, receiver: usize) -> Option<u64> {
-        let sent = self.book.sent_at(sender, self.from[sender - 1], receiver);
-        sent.checked_sub(self.off(sender, receiver))
+        self.sent(sender, receiver).checked_sub(self.off(sender, receiver))
     }
 
     /// The channels, each by its sender and its receiver.
-    fn channels(&self) -> impl Iterator<Item = (usize, usize)> {
+    pub fn channels(&self) -> impl Iterator<Item = (usize, usize)> {
         let n = self.book.n();
         (1..=n).flat_map(move |j| participants(n, j).map(move |p| (j, p)))
     }
@@ -76,7 +80,7 @@ impl<'a> Step<'a> {
     fn leaves_process(&self, moved: &Book, order: &[u64], j: usize) -> Result<(), String> {
         let (before, kept) = (self.before(j), self.kept(j));
         let after = self.book.count(j) - before - kept;
-        let said: Vec<usize> = order
+        let said: Vec<usize> = order[..ORDER_RESEND]
             .iter()
             .skip(j - 1)
             .step_by(PROCESSES)

@@ -8,6 +8,7 @@ use crate::layout::{participants, Counter, NOT_KNOWN, ORDER_WORDS, SET_WORDS};
 use crate::lent::{Guarded, Lent};
 use crate::move_claims::Step;
 use crate::random::Random;
+use crate::resend_scenarios::leaves_list;
 use crate::runner::{book_of, Runner};
 use crate::scenarios::lent_tables;
 use crate::tally::Kind;
@@ -54,6 +55,7 @@ pub fn after_move(runner: &mut Runner, book: &Book, left: &Lent) -> Option<Book>
     let what = holds.as_ref().err().map_or("", String::as_str);
     runner.demand(holds.is_ok(), &format!("what is claimed of a move: {what}"), left)?;
     runner.moves.add_move(&step);
+    leaves_list(runner, book, &moved, left)?;
     let checked = runner.case(Kind::ValidTables, Call::Check, lent_tables(&moved))?;
     runner.demand(checked.answer == 0, "moved tables pass the check", left)?;
     Some(moved)

@@ -85,7 +85,7 @@ pub fn run(call: Call, lent: &mut Lent) -> u32 {
             Call::Read | Call::Journal | Call::Check | Call::Write | Call::Find => on_books(call, &a),
             Call::TestSet | Call::TestCheckpoint => on_sets(call, &a),
             Call::SessionStart | Call::SessionTurn | Call::Search => on_sessions(call, &a),
-            Call::Move | Call::RestartOrder => on_moves(call, &a),
+            Call::Move | Call::RestartOrder | Call::WriteResend | Call::ReadResend => on_moves(call, &a),
             _ => on_machines(call, &a),
         }
     }
@@ -145,6 +145,10 @@ unsafe fn on_moves(call: Call, a: &Arguments) -> u32 {
     let purpose = a.names[0];
     match call {
         Call::Move => call!(recovery_line_move, a, [shape sent received], purpose; [result]),
+        Call::WriteResend => {
+            call!(recovery_line_write_resend, a, [shape sent received], purpose; [out], a.numbers[0])
+        }
+        Call::ReadResend => call!(recovery_line_read_resend, a, [], a.names[0]; [bytes result]),
         _ => call!(recovery_line_restart_order, a, [shape sent received], purpose; [result]),
     }
 }

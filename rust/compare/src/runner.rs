@@ -5,7 +5,7 @@ use crate::call::{Call, ANSWERS};
 use crate::lent::Lent;
 use crate::show::describe;
 use crate::tally::{Kind, Tally};
-use crate::{journal_claims, move_claims, ours, pair_claims, theirs};
+use crate::{journal_claims, move_claims, ours, pair_claims, resend_claims, theirs};
 
 /// What the library answered to a case, and what it left.
 pub struct Outcome {
@@ -30,6 +30,8 @@ pub struct Runner {
     pub pairs: pair_claims::Met,
     /// The moves, and the lines of moved books, of which their claims were asserted.
     pub moves: move_claims::Met,
+    /// The lists of what to send again of which their claims were asserted.
+    pub lists: resend_claims::Met,
     pub difference: Option<String>,
 }
 
@@ -47,6 +49,7 @@ impl Runner {
             journals: journal_claims::Met::default(),
             pairs: pair_claims::Met::default(),
             moves: move_claims::Met::default(),
+            lists: resend_claims::Met::default(),
             difference: None,
         }
     }
@@ -88,6 +91,7 @@ impl Runner {
             self.journals.missing(),
             self.pairs.missing(),
             self.moves.missing(),
+            self.lists.missing(),
         ]
         .concat()
     }

@@ -4,20 +4,22 @@ use crate::book::Book;
 use crate::books::any_book;
 use crate::call::Call;
 use crate::damaged_books;
-use crate::layout::{initiator, participant, participants, session, strand_bytes, ORDER_WORDS, SET_WORDS};
+use crate::layout::{initiator, participant, participants, session, strand_bytes};
+use crate::layout::{ORDER_WORDS, RESEND_BYTES, SET_WORDS};
 use crate::lent::{Guarded, Lent};
 use crate::random::Random;
 use crate::runner::{book_of, Runner};
 use crate::tally::Kind;
 use crate::variations::varied;
-use crate::{journal_scenarios, line, machine_scenarios, made, move_scenarios, session_scenarios, set_scenarios};
+use crate::{journal_scenarios, line, machine_scenarios, made, move_scenarios};
+use crate::{resend_scenarios, session_scenarios, set_scenarios};
 
 /// Runs the scenario of a number.
 pub fn run(runner: &mut Runner, number: u64) {
     runner.scenario = number;
     let random = &mut Random::of_part(runner.seed, number);
     // A scenario that ends early says so in the runner.
-    let _ = match random.below(20) {
+    let _ = match random.below(22) {
         0 | 1 => books(runner, random),
         2 => tables(runner, random),
         3 => set_scenarios::sets(runner, random),
@@ -27,6 +29,8 @@ pub fn run(runner: &mut Runner, number: u64) {
         12 | 13 => journal_scenarios::journals(runner, random),
         14 => set_scenarios::columns(runner, random),
         15 => move_scenarios::chain(runner, random),
+        16 => resend_scenarios::orders(runner, random),
+        17 => resend_scenarios::lists(runner, random),
         _ => session_scenarios::forged(runner, random),
     };
 }
@@ -80,7 +84,7 @@ fn written_back(runner: &mut Runner, read: &Lent, bytes: &[u8]) -> Option<()> {
 
 /// Calls that take tables and no state: each once as it should be, then varied.
 fn tables(runner: &mut Runner, random: &mut Random) -> Option<()> {
-    const TABLE_CALLS: [Call; 9] = [
+    const TABLE_CALLS: [Call; 10] = [
         Call::Check,
         Call::Write,
         Call::Find,
@@ -90,6 +94,7 @@ fn tables(runner: &mut Runner, random: &mut Random) -> Option<()> {
         Call::Search,
         Call::Move,
         Call::RestartOrder,
+        Call::WriteResend,
     ];
     let book = any_book(random);
     for call in TABLE_CALLS {
@@ -144,6 +149,10 @@ fn lent_for(random: &mut Random, call: Call, book: &Book) -> Lent {
         }
         Call::Move | Call::RestartOrder => {
             lent.result = Guarded::fresh(ORDER_WORDS);
+            lent.names = [purpose, 0, 0];
+        }
+        Call::WriteResend => {
+            lent.out = Guarded::fresh(RESEND_BYTES);
             lent.names = [purpose, 0, 0];
         }
         _ => {}

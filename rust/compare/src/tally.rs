@@ -11,6 +11,8 @@ pub enum Kind {
     DamagedJournal,
     ValidTables,
     Chain,
+    ValidList,
+    DamagedList,
     DamagedTables,
     TableLengths,
     WordLengths,
@@ -33,13 +35,15 @@ pub enum Kind {
 }
 
 /// All kinds, with what the table calls them.
-const KINDS: [(Kind, &str); 25] = [
+const KINDS: [(Kind, &str); 27] = [
     (Kind::ValidBook, "valid books read"),
     (Kind::DamagedBook, "damaged books read"),
     (Kind::ValidJournal, "valid journals read"),
     (Kind::DamagedJournal, "damaged journals read"),
     (Kind::ValidTables, "valid tables"),
     (Kind::Chain, "books moved, and with later checkpoints"),
+    (Kind::ValidList, "lists of what to send again, written and read"),
+    (Kind::DamagedList, "damaged lists read"),
     (Kind::DamagedTables, "damaged tables"),
     (Kind::TableLengths, "tables of wrong length"),
     (Kind::WordLengths, "words or columns of wrong length"),

@@ -26,7 +26,8 @@ pub fn run(call: Call, lent: &mut Lent) -> u32 {
             lent.names[0],
             lent.result.lent_mut(),
         ),
-        Call::Check | Call::Write | Call::Find | Call::RestartOrder => on_books(call, lent),
+        Call::ReadResend => words::read_resend(lent.names[0], lent.bytes.lent(), lent.result.lent_mut()),
+        Call::Check | Call::Write | Call::Find | Call::RestartOrder | Call::WriteResend => on_books(call, lent),
         Call::TestSet | Call::TestCheckpoint => on_sets(call, lent),
         Call::SessionStart | Call::SessionTurn | Call::Search => on_sessions(call, lent),
         _ => on_machines(call, lent),
@@ -36,11 +37,13 @@ pub fn run(call: Call, lent: &mut Lent) -> u32 {
 fn on_books(call: Call, lent: &mut Lent) -> u32 {
     let (shape, sent, received) = (lent.shape.lent(), lent.sent.lent(), lent.received.lent());
     let (result, number) = (lent.result.lent_mut(), &mut lent.numbers[0]);
+    let (out, purpose) = (lent.out.lent_mut(), lent.names[0]);
     match call {
         Call::Check => words::check(shape, sent, received),
-        Call::Write => words::write(shape, sent, received, lent.out.lent_mut(), number),
+        Call::Write => words::write(shape, sent, received, out, number),
         Call::Find => words::find(shape, sent, received, result, number),
-        _ => words::restart_order(shape, sent, received, lent.names[0], result),
+        Call::WriteResend => words::write_resend(shape, sent, received, purpose, out, number),
+        _ => words::restart_order(shape, sent, received, purpose, result),
     }
 }
 

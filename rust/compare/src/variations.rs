@@ -35,7 +35,8 @@ fn own_kinds(call: Call) -> &'static [Kind] {
         Call::TestCheckpoint => &[Kind::Column, Kind::Name, Kind::Name],
         Call::Write => &[Kind::Room],
         Call::ParticipantFirst | Call::Search | Call::Move | Call::RestartOrder => &[Kind::Name],
-        Call::InitiatorBegin | Call::SessionStart => &[Kind::Name, Kind::Room],
+        Call::InitiatorBegin | Call::SessionStart | Call::WriteResend => &[Kind::Name, Kind::Room],
+        Call::ReadResend => &[Kind::DamagedList, Kind::DamagedList, Kind::Name],
         Call::ParticipantReceive | Call::InitiatorReceive => &OF_MACHINES,
         Call::SessionTurn => &OF_TURNS,
         Call::Check | Call::Find => &[],
@@ -65,7 +66,7 @@ const OF_TURNS: [Kind; 12] = [
     Kind::Name,
 ];
 
-/// The kinds that every call has; a call that fills tables has the last two, about lengths.
+/// The kinds that every call has; a call that fills tables has the last two, about lengths, and one without tables the last.
 const OF_TABLES: [Kind; 5] = [
     Kind::DamagedTables,
     Kind::DamagedTables,
@@ -77,10 +78,10 @@ const OF_TABLES: [Kind; 5] = [
 /// A kind of variation for a call, its own more often than those of every call.
 fn one_kind(random: &mut Random, call: Call) -> Kind {
     let own = own_kinds(call);
-    let common = if call.fills_tables() {
-        &OF_TABLES[3..]
-    } else {
-        &OF_TABLES
+    let common = match call {
+        Call::ReadResend => &OF_TABLES[4..],
+        _ if call.fills_tables() => &OF_TABLES[3..],
+        _ => &OF_TABLES,
     };
     if own.is_empty() || random.once_in(4) {
         random.one_of(common)
@@ -91,7 +92,7 @@ fn one_kind(random: &mut Random, call: Call) -> Kind {
 
 fn change(random: &mut Random, call: Call, kind: Kind, lent: &mut Lent) {
     match kind {
-        Kind::DamagedBook | Kind::DamagedJournal => {
+        Kind::DamagedBook | Kind::DamagedJournal | Kind::DamagedList => {
             let bytes = with_bytes_changed(random, lent.bytes.lent().to_vec());
             lent.bytes = Guarded::holding(&bytes);
         }
@@ -181,7 +182,7 @@ fn room_needed(random: &mut Random, call: Call, lent: &Lent) -> usize {
         return lent.out.lent().len();
     }
     match call {
-        Call::Write => trial.numbers[0] as usize,
+        Call::Write | Call::WriteResend => trial.numbers[0] as usize,
         Call::SessionStart | Call::SessionTurn => {
             let words = trial.state.lent();
             let (n, initiator) = (words[session::N] as usize, words[session::INITIATOR] as usize);

@@ -1,4 +1,4 @@
-//! From what three workers did to where they restart.
+//! From what three workers did to where they restart, and what they send again.
 use recovery_line::{Journal, Process, Purpose, Refusal};
 
 fn main() -> Result<(), Refusal> {
@@ -11,9 +11,15 @@ fn main() -> Result<(), Refusal> {
     journal.sent(one, three); // after worker 1's newest checkpoint,
     journal.received(three, one).checkpoint(three); // and so this one does not fit that
 
-    let tables = journal.tables()?;
-    for restart in tables.restart_order(Purpose::AdvanceAndRestart)? {
+    let order = journal.tables()?.restart_order(Purpose::AdvanceAndRestart)?;
+    for restart in &order {
         println!("worker {} restarts from checkpoint {}", restart.process, restart.from);
+    }
+    for repeat in order.sent_again() {
+        let (sender, receiver) = (repeat.sender, repeat.receiver);
+        for message in repeat.messages() {
+            println!("worker {sender} sends worker {receiver} message {message} again");
+        }
     }
     Ok(())
 }

@@ -168,10 +168,17 @@ fn search_and_move() -> Result<(), Box<dyn Error>> {
     println!("rounds {}", search.initiator.rounds());
     println!("messages {}", search.delivered);
 
-    for restart in whole_book.move_line(Purpose::AdvanceAndRestart)? {
+    let order = whole_book.move_line(Purpose::AdvanceAndRestart)?;
+    for restart in &order {
         println!(
             "process {} restarts from checkpoint {}; before it {} go, after it {}",
             restart.process, restart.from, restart.before, restart.after
+        );
+    }
+    for repeat in order.sent_again() {
+        println!(
+            "process {} sends process {} messages {} to {} again",
+            repeat.sender, repeat.receiver, repeat.first, repeat.last
         );
     }
     println!("new book{}", hex(&whole_book.write()?));

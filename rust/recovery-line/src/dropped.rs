@@ -13,7 +13,7 @@ macro_rules! must_not_be_dropped {
         concat!(
             "```", $mode, "\n",
             "#![deny(unused_must_use)]\n",
-            "use recovery_line::{Head, Journal, Participant, Process, Purpose, Refusal, Session, Set, Tables};\n",
+            "use recovery_line::{Head, Journal, Participant, Process, Purpose, Refusal, Resend, Session, Set, Tables};\n",
             "fn drops(mut tables: Tables, one: Process, two: Process, advance: Purpose) -> Result<(), Refusal> {\n",
             $kept, $made, ";\n",
             "Ok(())\n",
@@ -40,6 +40,9 @@ must_not_be_dropped! {
     builders: "Tables::builder(1)";
     journals: "Journal::new(1)";
     iterators: "tables.move_line(advance)?.iter()";
+    repeats: "tables.move_line(advance)?.sent_again()";
+    lists: "Resend::read(1, &[0])?";
+    lists_of_orders: "tables.restart_order(advance)?.resend()";
     looks: "tables.processes()";
     heads: "Head::of(&[])";
 }

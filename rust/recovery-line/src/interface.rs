@@ -78,6 +78,12 @@ macro_rules! interface {
         fn restart_order = recovery_line_restart_order(
             shape: &[u64], sent: &[Counter], received: &[Counter], purpose: u64, order: &mut [u64],
         );
+        /// Writes the list of what the restart order for a purpose has sent again to the start of `out`, and its length.
+        fn write_resend = recovery_line_write_resend(
+            shape: &[u64], sent: &[Counter], received: &[Counter], purpose: u64, out: &mut [u8], length: &mut u64,
+        );
+        /// Reads a list of what to send again among n processes.
+        fn read_resend = recovery_line_read_resend(n: u64, bytes: &[u8], resend: &mut [u64],);
     } };
 
     (@each $make:ident $($(#[$doc:meta])* fn $name:ident = $symbol:ident($($lent:tt)*);)*) => {

@@ -2,9 +2,10 @@
 //!
 //! Which checkpoints there are, and what each had sent and received, stands in a checkpoint book. This crate reads, checks and
 //! writes such books ([`Tables`]), makes one from a [`Journal`] of events or checkpoint by checkpoint ([`BookBuilder`]), finds
-//! the recovery line, the consistent set of checkpoints that is nowhere earlier than any other, and moves it. Where no one has
-//! the whole book the workers find the line by messages, with an [`Initiator`] and [`Participant`]s of their own
-//! ([Between machines](#between-machines)); a [`Session`] runs all these in one place, for who has it.
+//! the recovery line, the consistent set of checkpoints that is nowhere earlier than any other, and moves it; an [`Order`] says
+//! from where each process restarts, and what it sends again. Where no one has the whole book the workers find the line by
+//! messages, with an [`Initiator`] and [`Participant`]s of their own ([Between machines](#between-machines)); a [`Session`] runs
+//! all these in one place, for who has it.
 //!
 //! A call either accepts or is refused by the first of its questions that fails, and a refused call changes nothing. The
 //! questions are listed in the repository's README, and [`Refusal::sentence`] has them too; with each method stand those that can
@@ -41,9 +42,13 @@
 //! assert!(session.all_ended());
 //! assert_eq!(session.delivered(), 10);
 //!
-//! // The line becomes the oldest set, and everybody restarts from it.
-//! for restart in tables.move_line(Purpose::AdvanceAndRestart)? {
+//! // The line becomes the oldest set, and everybody restarts from it; what crosses it is sent again.
+//! let order = tables.move_line(Purpose::AdvanceAndRestart)?;
+//! for restart in &order {
 //!     println!("process {} restarts from checkpoint {}", restart.process, restart.from);
+//! }
+//! for repeat in order.sent_again() {
+//!     println!("{} sends {} messages {} to {}", repeat.sender, repeat.receiver, repeat.first, repeat.last);
 //! }
 //!
 //! // A book is stored as bytes; one that ends too early is refused.
@@ -107,9 +112,9 @@
 //!   another worker may be accepted. The search may then end elsewhere, even on a set that is not consistent.
 //! - What a step gives must be sent, since no step can be taken again. Who stores a machine's words stores with them the messages
 //!   of its last step until they are sent.
-//! - [`Tables::find_line`], [`Tables::test_set`], [`Tables::restart_order`], [`Tables::move_line`], [`Tables::search`] and
-//!   [`Session`] need the whole book. Tables with one worker's own rows alone are accepted too, and say that the others have
-//!   done nothing: the answer is for that book, and goes back too far.
+//! - [`Tables::find_line`], [`Tables::test_set`], [`Tables::restart_order`], [`Tables::move_line`], [`Tables::write_resend`],
+//!   [`Tables::search`] and [`Session`] need the whole book. Tables with one worker's own rows alone are accepted too, and say
+//!   that the others have done nothing: the answer is for that book, and goes back too far.
 //! - When all have ended, every worker goes by its machine's candidate, which becomes its oldest checkpoint: those before it go,
 //!   and with [`Purpose::Restart`] and [`Purpose::AdvanceAndRestart`] the worker goes back to it, and those after it go too.
 //! - With [`Purpose::Advance`] and [`Purpose::AdvanceAndRestart`] everything is counted from the new line: who has the whole book
@@ -118,8 +123,9 @@
 //!   to each partner what the partner's candidate had received from it. Only the partner can tell that: let each worker send this
 //!   number to each other one. With [`Purpose::Restart`] nothing comes off.
 //! - So the oldest checkpoint has received nothing, and what it has sent is what crosses the line: it is on its way, and after a
-//!   restart it is the program's to send again. The running counters go on from that checkpoint, which counts it already. A new
-//!   [`Journal`] begins with zeros: who keeps one logs each repetition as sent.
+//!   restart it is the program's to send again. Who has the whole book knows which messages these are ([`Order::sent_again`]),
+//!   and can send the list to everybody ([`Tables::write_resend`], [`Resend::read`]). The running counters go on from that
+//!   checkpoint, which counts them already. A new [`Journal`] begins with zeros: who keeps one logs each repetition as sent.
 //!
 #![doc = include_str!("../README.md")]
 #![deny(unsafe_code, missing_docs)]
@@ -142,6 +148,7 @@ mod order;
 mod participant;
 pub mod raw;
 mod refusal;
+mod resend;
 mod session;
 mod set;
 #[allow(unsafe_code)]
@@ -159,6 +166,7 @@ pub use order::{Order, Restart};
 pub use participant::{Participant, Stage};
 pub use raw::version;
 pub use refusal::Refusal;
+pub use resend::{Repeat, Repeats, Resend};
 pub use session::Session;
 pub use set::{Line, Search, Set};
 pub use sys::Counter;

@@ -79,7 +79,8 @@ impl Checkpoint {
     pub const OLDEST: Checkpoint = Checkpoint(1);
 }
 
-/// A number of messages that a checkpoint had sent or received, counted from the present line.
+/// A number of messages that a checkpoint had sent or received, counted from the present line. In a
+/// [`Repeat`](crate::Repeat) it names a message: the one by which the count came to that number.
 #[derive(Clone, Copy, Debug, PartialEq, Eq, PartialOrd, Ord, Hash)]
 pub struct Count(u64);
 number!(

@@ -73,6 +73,10 @@ impl Refusal {
             18 => "Is a message waiting on that strand?",
             19 => "Is the event formed: its kind 1, 2 or 3, its numbers, and a partner other than the process?",
             20 => "Of a receipt: is a message underway from the partner to the process?",
+            21 => {
+                "Does the list rise by sender, then receiver, with two processes and a first message from 1 to the last \
+                 in each entry, and nothing after it?"
+            }
             sys::RECOVERY_LINE_WRONG_LENGTH => "A slice of words, or of sixteen counters, has the wrong length.",
             _ => "The specification has no such question.",
         }

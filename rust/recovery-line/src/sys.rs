@@ -2,7 +2,7 @@
 //! The module [`raw`](crate::raw) has a safe function for each of these.
 
 /// The version of this interface.
-pub const RECOVERY_LINE_VERSION: u32 = 4;
+pub const RECOVERY_LINE_VERSION: u32 = 5;
 
 /// The most processes.
 pub const RECOVERY_LINE_PROCESSES: usize = 16;
@@ -33,12 +33,19 @@ pub const RECOVERY_LINE_PAIR_WORDS: usize = 2;
 /// The words that say how long the messages of one step are.
 pub const RECOVERY_LINE_LENGTHS_WORDS: usize = RECOVERY_LINE_PROCESSES;
 
+/// Where the last messages of a list of what to send again begin, after the first ones: a row of each for each sender.
+pub const RECOVERY_LINE_RESEND_LAST_AT: usize = RECOVERY_LINE_MATRIX_ENTRIES;
+/// The words of a list of what to send again.
+pub const RECOVERY_LINE_RESEND_WORDS: usize = RECOVERY_LINE_RESEND_LAST_AT + RECOVERY_LINE_MATRIX_ENTRIES;
+
 /// Where a restart order says how many older ones are dropped, after the checkpoints restarted from.
 pub const RECOVERY_LINE_ORDER_BEFORE_AT: usize = RECOVERY_LINE_SET_WORDS;
 /// Where it says how many newer ones are dropped.
 pub const RECOVERY_LINE_ORDER_AFTER_AT: usize = RECOVERY_LINE_ORDER_BEFORE_AT + RECOVERY_LINE_PROCESSES;
+/// Where its list of what to send again begins.
+pub const RECOVERY_LINE_ORDER_RESEND_AT: usize = RECOVERY_LINE_ORDER_AFTER_AT + RECOVERY_LINE_PROCESSES;
 /// The words of a restart order.
-pub const RECOVERY_LINE_ORDER_WORDS: usize = RECOVERY_LINE_ORDER_AFTER_AT + RECOVERY_LINE_PROCESSES;
+pub const RECOVERY_LINE_ORDER_WORDS: usize = RECOVERY_LINE_ORDER_RESEND_AT + RECOVERY_LINE_RESEND_WORDS;
 
 /// Where a participant's own process stands in its state, after n.
 pub const RECOVERY_LINE_PARTICIPANT_PROCESS_AT: usize = 1;
@@ -122,6 +129,10 @@ pub const fn RECOVERY_LINE_MESSAGE_BYTES(n: usize) -> usize {
 pub const fn RECOVERY_LINE_STRAND_BYTES(n: usize) -> usize {
     (n - 1) * RECOVERY_LINE_MESSAGE_BYTES(n)
 }
+
+/// The bytes of the longest list of what to send again.
+pub const RECOVERY_LINE_MOST_RESEND_BYTES: usize =
+    2 + RECOVERY_LINE_PROCESSES * (RECOVERY_LINE_PROCESSES - 1) * (2 + 2 * RECOVERY_LINE_GROUPS);
 
 /// The stack that suffices for every call.
 pub const RECOVERY_LINE_STACK_BYTES: usize = 77824;

@@ -3,6 +3,7 @@
 use crate::book::{Counter, Shape, MARK, PROCESSES};
 use crate::initiator::{Initiator, Matrix};
 use crate::participant::{Participant, ENDED};
+use crate::resend::Repeat;
 use crate::restart::Order;
 use crate::session::Session;
 
@@ -10,7 +11,8 @@ pub const SHAPE_WORDS: usize = 1 + PROCESSES;
 pub const SET_WORDS: usize = PROCESSES;
 pub const PAIR_WORDS: usize = 2;
 pub const LENGTHS_WORDS: usize = PROCESSES;
-pub const ORDER_WORDS: usize = 3 * PROCESSES;
+pub const RESEND_WORDS: usize = 2 * PROCESSES * PROCESSES;
+pub const ORDER_WORDS: usize = 3 * PROCESSES + RESEND_WORDS;
 /// Before its row and column, or its flags and matrices, a state has this many words of one number each.
 const PARTICIPANT_NUMBERS: usize = 6;
 const INITIATOR_NUMBERS: usize = 6;
@@ -155,6 +157,19 @@ impl<'a> Encoder<'a> {
         self.all(&order.from);
         self.all(&order.before);
         self.all(&order.after);
+        self.resend(&order.resend);
+    }
+
+    /// The first messages of all channels, a row for each sender, then the last ones; 0 for none.
+    pub fn resend(&mut self, list: &[Repeat]) {
+        let mut matrices: [Matrix; 2] = Default::default();
+        for entry in list {
+            let (sender, receiver) = (entry.sender as usize - 1, entry.receiver as usize - 1);
+            for (matrix, message) in matrices.iter_mut().zip([entry.first, entry.last]) {
+                matrix[sender][receiver] = message;
+            }
+        }
+        self.all(matrices.as_flattened().as_flattened());
     }
 
     pub fn participant(&mut self, state: &Participant) {

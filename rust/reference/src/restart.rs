@@ -4,17 +4,20 @@ use crate::book::{Book, Counter, Row, Shape, PROCESSES};
 use crate::line::line_of;
 use crate::machine::purpose_question;
 use crate::message::RESTART_ONLY;
+use crate::resend::{list_of, Repeat};
 
 /// The purpose that only advances the line: nothing newer goes.
 const ADVANCE_ONLY: u64 = 1;
 
 /// "A restart order names, for each process, the checkpoint restarted from, numbered as before the
-/// move, and how many go before and after it"; absent processes have 0.
+/// move, and how many go before and after it"; absent processes have 0. It "gains a list of (sender,
+/// receiver, first, last)" (E5), "as counted before the move".
 #[derive(Clone, PartialEq, Debug)]
 pub struct Order {
     pub from: [u64; PROCESSES],
     pub before: [u64; PROCESSES],
     pub after: [u64; PROCESSES],
+    pub resend: Vec<Repeat>,
 }
 
 /// The order for accepted tables and a purpose that there is.
@@ -29,6 +32,7 @@ fn order_of(book: &Book, purpose: u64) -> Order {
         from: zeros,
         before: zeros,
         after: zeros,
+        resend: list_of(book, &restarted),
     };
     for (process, &from) in restarted.iter().enumerate().take(book.n) {
         order.from[process] = from as u64;

@@ -7,11 +7,11 @@
 use crate::book::{self, Book, Counter};
 use crate::layout::{shape_of, Decoder, Encoder};
 use crate::machine::{process_question, purpose_question};
-use crate::{initiator, journal, line, participant, restart, session};
+use crate::{initiator, journal, line, participant, resend, restart, session};
 
 pub use crate::layout::{
     initiator_words, participant_words, session_words, INITIATOR_WORDS, LENGTHS_WORDS, ORDER_WORDS, PAIR_WORDS,
-    PARTICIPANT_WORDS, SESSION_WORDS, SET_WORDS, SHAPE_WORDS,
+    PARTICIPANT_WORDS, RESEND_WORDS, SESSION_WORDS, SET_WORDS, SHAPE_WORDS,
 };
 
 /// The answer to a slice of words, or of sixteen counters, of the wrong length.
@@ -302,6 +302,32 @@ pub fn restart_order(shape: &[u64], sent: &[Counter], received: &[Counter], purp
         length_question(order, ORDER_WORDS)?;
         let given = restart::restart_order(&shape_of(shape), sent, received, purpose)?;
         Encoder::new(order).order(&given);
+        Ok(())
+    })
+}
+
+/// `recovery_line_write_resend`
+pub fn write_resend(
+    shape: &[u64],
+    sent: &[Counter],
+    received: &[Counter],
+    purpose: u64,
+    out: &mut [u8],
+    length: &mut u64,
+) -> u32 {
+    answer(|| {
+        length_question(shape, SHAPE_WORDS)?;
+        *length = resend::write_resend(&shape_of(shape), sent, received, purpose, out)? as u64;
+        Ok(())
+    })
+}
+
+/// `recovery_line_read_resend`
+pub fn read_resend(n: u64, bytes: &[u8], resend: &mut [u64]) -> u32 {
+    answer(|| {
+        length_question(resend, RESEND_WORDS)?;
+        let list = resend::read_resend(n, bytes)?;
+        Encoder::new(resend).resend(&list);
         Ok(())
     })
 }

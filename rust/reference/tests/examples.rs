@@ -101,7 +101,8 @@ fn example_6_of_k_moved() {
         Order {
             from: set(&[2, 1, 2]),
             before: set(&[1, 0, 1]),
-            after: set(&[])
+            after: set(&[]),
+            resend: Vec::new(),
         }
     );
     let expected = read_hex(moved).unwrap();
@@ -125,7 +126,8 @@ fn example_6_of_k_restarted() {
         Order {
             from: set(&[1, 1, 1]),
             before: set(&[]),
-            after
+            after,
+            resend: Vec::new(),
         }
     );
     let (before, after) = (set(&[1, 0, 1]), set(&[2, 3, 0]));
@@ -134,7 +136,8 @@ fn example_6_of_k_restarted() {
         Order {
             from: set(&[2, 1, 2]),
             before,
-            after
+            after,
+            resend: Vec::new(),
         }
     );
 }

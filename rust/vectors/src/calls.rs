@@ -244,6 +244,29 @@ pub fn move_line(tables: &mut Tables, entries: [usize; 2], purpose: u64, order: 
     question
 }
 
+pub fn write_resend(lent: Lent, purpose: u64, out: &mut [u8], length: &mut u64) -> u32 {
+    let mut t = Reading::of(lent);
+    let mut cells = Cells::of(out);
+    let question = call!(
+        sys::recovery_line_write_resend,
+        [t.shape, t.sent, t.received],
+        [purpose],
+        [cells],
+        [length]
+    );
+    t.expect_same(lent);
+    cells.put_into(out);
+    question
+}
+
+pub fn read_resend(n: u64, bytes: &[u8], resend: &mut [u64]) -> u32 {
+    let (mut byte_cells, mut cells) = (Cells::of(bytes), Cells::of(resend));
+    let question = call!(sys::recovery_line_read_resend, [], [n], [byte_cells, cells]);
+    byte_cells.expect_same(bytes);
+    cells.put_into(resend);
+    question
+}
+
 pub fn restart_order(lent: Lent, purpose: u64, order: &mut [u64]) -> u32 {
     let mut t = Reading::of(lent);
     let mut cells = Cells::of(order);

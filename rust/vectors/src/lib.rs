@@ -12,6 +12,7 @@ mod cells;
 pub mod edited_tables;
 pub mod edits;
 pub mod given;
+pub mod lists;
 pub mod machine;
 pub mod mail;
 pub mod moves;

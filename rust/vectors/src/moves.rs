@@ -1,24 +1,36 @@
 //! Moves that are tried: the restart order, the moved tables, and what must hold of them.
 
 use crate::given::Given;
-use crate::tables::{Tables, BUFFER, PROCESSES};
+use crate::tables::{Lent, Tables, BUFFER, PROCESSES};
 use crate::taken_off::TakenOff;
 use crate::text::{self, Answer};
 use crate::{calls, IN_WORDS};
+use recovery_line::sys;
 
 /// The purpose of a bare restart.
-const RESTART: u64 = 2;
+pub const RESTART: u64 = 2;
 
-/// Sixteen checkpoints restarted from, and how many go before and after each.
+const WORDS: usize = sys::RECOVERY_LINE_ORDER_WORDS;
+
+/// Sixteen checkpoints restarted from, how many go before and after each, and what is sent again.
 #[derive(Clone, Copy, PartialEq)]
-pub struct Order([u64; 3 * PROCESSES]);
+pub struct Order([u64; WORDS]);
 
 /// What stands in an order before a move, and before one is asked for alone: not the same, so that what neither writes
 /// shows.
-const IN_MOVED: Order = Order([IN_WORDS; 3 * PROCESSES]);
-const IN_ASKED: Order = Order([!IN_WORDS; 3 * PROCESSES]);
+const IN_MOVED: Order = Order([IN_WORDS; WORDS]);
+const IN_ASKED: Order = Order([!IN_WORDS; WORDS]);
 
 impl Order {
+    /// The order that is asked for alone, or the question that refuses.
+    pub fn asked(lent: Lent, purpose: u64) -> Result<Order, u32> {
+        let mut order = IN_ASKED;
+        match calls::restart_order(lent, purpose, &mut order.0) {
+            0 => Ok(order),
+            question => Err(question),
+        }
+    }
+
     /// The checkpoint that a process, counted from 0, restarts from.
     pub fn from(&self, process: usize) -> u64 {
         self.0[process]
@@ -30,6 +42,11 @@ impl Order {
 
     pub fn after(&self, process: usize) -> u64 {
         self.0[2 * PROCESSES + process]
+    }
+
+    /// The words of what is sent again.
+    pub fn resend(&self) -> &[u64] {
+        &self.0[sys::RECOVERY_LINE_ORDER_RESEND_AT..]
     }
 }
 
@@ -47,7 +64,7 @@ impl Moved {
     }
 
     /// A move of tables of which so many entries are lent.
-    fn lent(tables: &Tables, entries: [usize; 2], purpose: u64) -> Moved {
+    pub fn lent(tables: &Tables, entries: [usize; 2], purpose: u64) -> Moved {
         let (mut tables, mut order) = (tables.clone(), IN_MOVED);
         let question = calls::move_line(&mut tables, entries, purpose, &mut order.0);
         Moved {
@@ -100,7 +117,7 @@ fn try_call(call: &Call) -> Answer {
 fn put_moved(answer: &mut Answer, moved: &Moved) {
     let Moved { tables, order, .. } = moved;
     answer.put("0 ");
-    match tables.lent().write(BUFFER).book() {
+    match tables.lent().write(BUFFER).bytes() {
         Some(book) => answer.put_bytes(book),
         None => answer.put("?"),
     }

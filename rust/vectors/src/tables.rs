@@ -153,10 +153,17 @@ impl<'a> Lent<'a> {
         Written { question, out, length }
     }
 
+    /// Writes the list of what the order for a purpose has sent again into the first `room` bytes of a buffer.
+    pub fn write_resend(self, purpose: u64, room: usize) -> Written {
+        let (mut out, mut length) = (vec![IN_BYTES; room.max(BUFFER)], IN_WORDS);
+        let question = calls::write_resend(self, purpose, &mut out[..room], &mut length);
+        Written { question, out, length }
+    }
+
     /// Is what is written, read again, these tables?
     pub fn are_read_again(self) -> bool {
         let written = self.write(BUFFER);
-        let Some(book) = written.book() else { return false };
+        let Some(book) = written.bytes() else { return false };
         let (question, again) = Tables::of_book(book);
         question == 0
             && again.shape == self.shape
@@ -173,15 +180,15 @@ pub struct Written {
 }
 
 impl Written {
-    /// The book of a write that was accepted.
-    pub fn book(&self) -> Option<&[u8]> {
+    /// What a write that was accepted wrote.
+    pub fn bytes(&self) -> Option<&[u8]> {
         let length = usize::try_from(self.length).ok()?;
         (self.question == 0).then(|| self.out.get(..length))?
     }
 
     /// Is this all that was written, and every byte after it as before?
-    pub fn is_just(&self, book: &[u8]) -> bool {
-        self.book() == Some(book) && self.out[book.len()..].iter().all(|&b| b == IN_BYTES)
+    pub fn is_just(&self, bytes: &[u8]) -> bool {
+        self.bytes() == Some(bytes) && self.out[bytes.len()..].iter().all(|&b| b == IN_BYTES)
     }
 
     /// Was nothing written?

@@ -13,12 +13,12 @@ use Rattle.plans.proofs.order_to.Statement.{statement}
 use Rattle.plans.proofs.order_to.Tie as tie
 
 abbrev Inv-loop : tie.InvT-loop
-Inv-loop purpose line n counts before₀ after₀ j₀ before after j =
+Inv-loop purpose resend line n counts before₀ after₀ j₀ before after j =
     Filled 0 before₀ n (λ i. chosen line i - 1) before j
     × Filled 0 after₀ n (λ i. pick (restarts purpose) (getD counts i 0 - chosen line i) 0) after j
 
 abbrev μ-loop : tie.MeasureT-loop
-μ-loop purpose line n counts before₀ after₀ j₀ before after j = n - j
+μ-loop purpose resend line n counts before₀ after₀ j₀ before after j = n - j
 
 loop-holds : tie.Need-loop-holds Inv-loop μ-loop
 loop-holds c = (filled-none (omega arith), filled-none (omega arith))
@@ -72,7 +72,7 @@ loop-again c =
 returns : tie.Need-returns Inv-loop μ-loop
 returns c =
     let filled = c .before .loop .inv in
-    (refl, (filled-numbers (filled .0) (c .loop-test .left), filled-numbers (filled .1) (c .loop-test .left)))
+    ((refl, refl), (filled-numbers (filled .0) (c .loop-test .left), filled-numbers (filled .1) (c .loop-test .left)))
 
 pub order-to-spec : {M : Type 1} → statement M
 order-to-spec =

@@ -4,9 +4,9 @@ use native.Mathlib.Omega.{arith}
 use borrow.Author.Needs.{needs}
 use lib.ListN.{length-append}
 use Rattle.lists.proofs.Over.{length-tab}
-use Rattle.words.specs.Words.{orderBeforeAt}
-use Rattle.words.specs.Plain.{setWords, numberWords, orderWords}
-use Rattle.words.proofs.Storing.{sets-then, sets-all}
+use Rattle.words.specs.Words.{orderBeforeAt, orderAfterAt}
+use Rattle.words.specs.Plain.{setWords, numberWords, resendWords, orderWords}
+use Rattle.words.proofs.Storing.{sets-then, sets-all, resend-long}
 use Rattle.words.proofs.put_order.Statement.{statement}
 use Rattle.words.proofs.put_order.Tie as tie
 
@@ -19,6 +19,9 @@ put-numbers-requires c κs = search needs
 put-numbers-requires-2 : tie.Need-put-numbers-requires-2
 put-numbers-requires-2 c κs = search needs
 
+put-resend-requires : tie.Need-put-resend-requires
+put-resend-requires c κs = search needs
+
 same-length : tie.Need-same-length
 same-length c = search needs
 
@@ -26,18 +29,29 @@ returns : tie.Need-returns
 unfolding orderWords
 returns c =
     let last = c .before .before in
-    let second = last .before .before .before .before in
+    let third = last .before .before .before .before in
+    let second = third .before .before .before .before in
     let first = second .before .before .before .before in
-    let start = first .before .before .before .before .before .before in
+    let start = first .before .before .before .before .before .before .before in
     let a = start .args in
     let from = setWords (a .order .from) in
     let before = numberWords (a .order .before) in
     let after = numberWords (a .order .after) in
-    sets-all (from ++ (before ++ after)) (a .words .now) (simp (length-append, length-tab) (omega (arith, start .pre)))
-    (sets-then from (before ++ after) (a .words .now) 0 (first .put-set .ensures) (simp length-tab)
-    (sets-then before after (first .put-set .last .1 .0) orderBeforeAt (second .put-numbers .ensures) (simp length-tab) (last .put-numbers2 .ensures)))
+    let resend = resendWords (a .order .resend) in
+    sets-all (from ++ (before ++ (after ++ resend))) (a .words .now)
+    (simp (length-append, length-tab) (omega (arith, start .pre, resend-long (a .order .resend))))
+    (sets-then from (before ++ (after ++ resend)) (a .words .now) 0 (first .put-set .ensures) (simp length-tab)
+    (sets-then before (after ++ resend) (first .put-set .last .1 .0) orderBeforeAt (second .put-numbers .ensures) (simp length-tab)
+    (sets-then after resend (second .put-numbers .last .1 .0) orderAfterAt (third .put-numbers2 .ensures) (simp length-tab)
+    (last .put-resend .ensures))))
 
 pub put-order-spec : {M : Type 1} → statement M
 put-order-spec =
     tie.close
-    (tie.spec put-set-requires put-numbers-requires put-numbers-requires-2 same-length returns)
+    (tie.spec
+    put-set-requires
+    put-numbers-requires
+    put-numbers-requires-2
+    put-resend-requires
+    same-length
+    returns)

@@ -16,8 +16,8 @@ use std::time::Instant;
 /// Cases of the gate.
 const GATE_CASES: u64 = 400_000;
 
-/// Cases from which on every answer of every call, every size of a journal, sets and checkpoints with and without a fault, and
-/// moves with and without messages on their way must have been met.
+/// Cases from which on every answer of every call, every size of a journal, sets and checkpoints with and without a fault, moves
+/// with and without messages on their way, and lists of all lengths must have been met.
 const ENOUGH_CASES: u64 = 100_000;
 
 /// What the command line asks for.
@@ -109,6 +109,7 @@ fn report(runner: &Runner) -> bool {
     println!("journals: {}", runner.journals);
     println!("pairs: {}", runner.pairs);
     println!("moves: {}", runner.moves);
+    println!("lists: {}", runner.lists);
     let missing = runner.missing();
     if runner.tally.cases >= ENOUGH_CASES && !missing.is_empty() {
         println!("what no case had: {}", missing.join(", "));
@@ -136,6 +137,7 @@ fn run_seeds(first: u64, cases: u64, seconds: f64) -> bool {
         total.journals.merge(&runner.journals);
         total.pairs.merge(&runner.pairs);
         total.moves.merge(&runner.moves);
+        total.lists.merge(&runner.lists);
         total.difference = runner.difference;
         if total.difference.is_some() {
             break;

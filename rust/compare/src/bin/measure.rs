@@ -7,10 +7,12 @@
 //!     measure --size NAME                   what an operation of some size is measured by
 //!
 //! NAME is one of the list, or has a size: read:N:CHECKPOINTS and journal:N:BYTES (measured by bytes), set:N:T (by pairs),
-//! checkpoint:N:T (by partners), check:N:T and find:N:T (by T + n), session:N:T (by turns).
+//! checkpoint:N:T (by partners), check:N:T and find:N:T (by T + n), session:N:T (by turns), order:N:CHECKPOINTS,
+//! write-list:N:CHECKPOINTS and read-list:N:CHECKPOINTS (by entries).
 
 use compare::benches::{Bench, Operation};
 use compare::book::Book;
+use compare::growth::print_growth;
 use compare::layout::JOURNAL_BYTES;
 use compare::line;
 use compare::measured_books::{dense, in_flight, last_pair_at_fault, ring_with, typical};
@@ -24,6 +26,8 @@ enum Input {
     /// A turn after so many others, or its message alone.
     Turn(usize),
     Journal(fn() -> Vec<u8>),
+    /// The list of a book's order.
+    List(fn() -> Book),
 }
 
 /// An operation under the name of its row.
@@ -59,6 +63,13 @@ const JOURNAL: Row = Row {
     input: Input::Journal(largest_journal),
 };
 
+const READ_LIST: Row = Row {
+    name: "read-list",
+    what: "the same list",
+    operation: Operation::ReadResend,
+    input: Input::List(largest),
+};
+
 fn largest_journal() -> Vec<u8> {
     in_any_order(16, JOURNAL_BYTES)
 }
@@ -88,7 +99,7 @@ fn sixteen_in_flight() -> Book {
 }
 
 /// All of 16 processes and 256 checkpoints, but for find-254: 2 processes and 256.
-const ROWS: [Row; 22] = [
+const ROWS: [Row; 24] = [
     row("read", "the largest book", Operation::Read, largest),
     row("check", "its tables", Operation::Check, largest),
     row(
@@ -151,6 +162,8 @@ const ROWS: [Row; 22] = [
         Operation::Advance,
         sixteen_in_flight,
     ),
+    row("write-list", "240 to send again", Operation::WriteResend, largest),
+    READ_LIST,
 ];
 
 fn main() -> ExitCode {
@@ -198,13 +211,14 @@ fn bench_of(row: &Row) -> Bench {
         Input::Book(book) => Bench::new(row.operation, &book(), 0),
         Input::Turn(turns_before) => Bench::new(row.operation, &sixteen_typical(), turns_before),
         Input::Journal(journal) => Bench::of_journal(&journal()),
+        Input::List(book) => Bench::of_list(&book()),
     }
 }
 
 /// Runs an operation a fixed number of times on one side, or only what goes before each run.
 fn run_times(name: &str, side: &str, times: &str) -> bool {
     let listed = ROWS.iter().find(|row| row.name == name).map(bench_of);
-    let on_book = || of_size(name).map(|(operation, book)| Bench::new(operation, &book, 0));
+    let on_book = || of_size(name).map(|(operation, book)| on_size(operation, &book));
     let on_journal = || journal_of_size(name).map(|journal| Bench::of_journal(&journal));
     let named = listed.or_else(on_journal).or_else(on_book);
     let (Some(mut bench), Ok(times)) = (named, times.parse::<u32>()) else {
@@ -220,6 +234,14 @@ fn run_times(name: &str, side: &str, times: &str) -> bool {
         }
     }
     true
+}
+
+/// What is measured of a name with a size.
+fn on_size(operation: Operation, book: &Book) -> Bench {
+    match operation {
+        Operation::ReadResend => Bench::of_list(book),
+        _ => Bench::new(operation, book, 0),
+    }
 }
 
 /// The parts of a name with a size.
@@ -244,6 +266,9 @@ fn of_size(name: &str) -> Option<(Operation, Book)> {
         "checkpoint" => Some((Operation::TestCheckpoint, ring_with(n, size))),
         "find" => Some((Operation::Find, ring_with(n, size))),
         "session" => Some((Operation::Session, ring_with(n, size))),
+        "order" => Some((Operation::RestartOrder, dense(n, size, false))),
+        "write-list" => Some((Operation::WriteResend, dense(n, size, false))),
+        "read-list" => Some((Operation::ReadResend, dense(n, size, false))),
         _ => None,
     }
 }
@@ -258,7 +283,9 @@ fn print_size(name: &str) -> bool {
     };
     let size = match operation {
         Operation::Read => book.bytes().len(),
-        Operation::TestSet => book.n() * (book.n() - 1),
+        Operation::TestSet | Operation::RestartOrder | Operation::WriteResend | Operation::ReadResend => {
+            book.n() * (book.n() - 1)
+        }
         Operation::TestCheckpoint => book.n() - 1,
         Operation::Session => {
             let mut bench = Bench::new(operation, &book, 0);
@@ -269,97 +296,4 @@ fn print_size(name: &str) -> bool {
     };
     println!("{size}");
     true
-}
-
-fn print_growth() {
-    println!();
-    println!("Reading: nanoseconds per byte of the book.");
-    print_heads(&["n", "checkpoints", "bytes"], "per byte");
-    let sixteen = [16, 32, 64, 128, 256].map(|checkpoints| dense(16, checkpoints, false));
-    let fewer = [8, 4, 2].map(|n| dense(n, 256, false));
-    for book in sixteen.iter().chain(&[dense(16, 256, true)]).chain(&fewer) {
-        let bytes = book.bytes().len();
-        let found = medians(&mut Bench::new(Operation::Read, book, 0));
-        print_sizes(&[book.n(), book.checkpoints(), bytes]);
-        print_per(found.ours, bytes);
-        print_per(found.theirs, bytes);
-        println!();
-    }
-    print_growth_of_journals();
-    print_growth_of_finder();
-    print_growth_of_sessions();
-}
-
-fn print_growth_of_journals() {
-    println!();
-    println!("Journals, each message received right after it was sent: nanoseconds per byte.");
-    print_heads(&["n", "bytes"], "per byte");
-    let of_sixteen = [16_384, 32_768, JOURNAL_BYTES].map(|bytes| (16, bytes));
-    for (n, bytes) in of_sixteen.into_iter().chain([2, 8].map(|n| (n, JOURNAL_BYTES))) {
-        let found = medians(&mut Bench::of_journal(&in_turn(n, bytes)));
-        print_sizes(&[n, bytes]);
-        print_per(found.ours, bytes);
-        print_per(found.theirs, bytes);
-        println!();
-    }
-}
-
-/// The head of a table: sizes, then nanoseconds in all and per unit for each side.
-fn print_heads(sizes: &[&str], unit: &str) {
-    sizes.iter().for_each(|size| print!("{size:>12}"));
-    println!("{:>12}{unit:>10}{:>12}{unit:>10}", "ours", "reference");
-}
-
-fn print_sizes(sizes: &[usize]) {
-    sizes.iter().for_each(|size| print!("{size:>12}"));
-}
-
-fn print_per(nanoseconds: f64, units: usize) {
-    print!("{nanoseconds:>12.0}{:>10.1}", nanoseconds / units as f64);
-}
-
-fn print_growth_of_finder() {
-    println!();
-    println!("Finding the line, less the check of the same tables: nanoseconds per row of T + n.");
-    print_heads(&["n", "checkpoints", "T"], "per row");
-    let of_two = [16, 64, 128, 254].map(|passed| (2, passed));
-    let of_sixteen = [16, 64, 128, 240].map(|passed| (16, passed));
-    for (n, passed) in of_two.into_iter().chain([(4, 252), (8, 248)]).chain(of_sixteen) {
-        let book = ring_with(n, passed);
-        let find = medians(&mut Bench::new(Operation::Find, &book, 0));
-        let check = medians(&mut Bench::new(Operation::Check, &book, 0));
-        let passed = line::passed(&book, &line::line(&book));
-        print_sizes(&[n, book.checkpoints(), passed]);
-        print_per(find.ours - check.ours, passed + n);
-        print_per(find.theirs - check.theirs, passed + n);
-        println!();
-    }
-}
-
-fn print_growth_of_sessions() {
-    println!();
-    println!("Whole sessions, in rings and then in runs where everybody talks to everybody: nanoseconds per turn.");
-    print_heads(&["n", "checkpoints", "T", "turns"], "per turn");
-    let rings = [
-        (2, 2),
-        (2, 254),
-        (4, 28),
-        (4, 252),
-        (8, 56),
-        (8, 248),
-        (16, 48),
-        (16, 240),
-    ];
-    let rings = rings.map(|(n, passed)| ring_with(n, passed));
-    let runs = [(2, 128), (4, 64), (8, 32), (16, 4), (16, 16)].map(|(n, each)| typical(n, each));
-    for book in rings.iter().chain(&runs) {
-        let mut bench = Bench::new(Operation::Session, book, 0);
-        let found = medians(&mut bench);
-        let passed = line::passed(book, &line::line(book));
-        let turns = bench.delivered() as usize;
-        print_sizes(&[book.n(), book.checkpoints(), passed, turns]);
-        print_per(found.ours, turns);
-        print_per(found.theirs, turns);
-        println!();
-    }
 }

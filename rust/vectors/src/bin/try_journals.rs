@@ -94,7 +94,7 @@ fn try_journal(entries: [usize; 2], journal: &[u8]) -> Answer {
 /// The book of the tables, which must pass the check and come back when they are written and read.
 fn put_book(answer: &mut Answer, lent: Lent) {
     let written = lent.write(BUFFER);
-    match written.book() {
+    match written.bytes() {
         Some(book) => {
             answer.put(" ");
             answer.put_bytes(book);

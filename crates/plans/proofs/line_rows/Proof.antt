@@ -1,4 +1,4 @@
--- `received_by` meets its contract. The invariant: so many entries, row after row, are those of the line checkpoints.
+-- `line_rows` meets its contract. The invariant: so many entries, row after row, are those of the line checkpoints.
 use mathlib.Core.Path.{_≡_, _∙_, ap}
 use Prim.Native.Nat.{ℕ, _-_, _*_, _/_, _%_, _<_}
 use native.Mathlib.Omega.{arith}
@@ -11,15 +11,15 @@ use Rattle.book.proofs.Starts.{placed-row, placed-counter}
 use Rattle.consistency.specs.Set.{chosen}
 use Rattle.consistency.proofs.Permits.{from-one}
 use Rattle.plans.proofs.Filled.{filled-rows}
-use Rattle.plans.proofs.received_by.Statement.{statement}
-use Rattle.plans.proofs.received_by.Tie as tie
+use Rattle.plans.proofs.line_rows.Statement.{statement}
+use Rattle.plans.proofs.line_rows.Tie as tie
 
 abbrev Inv-loop : tie.InvT-loop
-Inv-loop received line n first held₀ i₀ held i =
-    Filled (tally 0) held₀ (n * 16) (λ k. tally (counterFrom received (getD first (k / 16) 0) (chosen line (k / 16)) (k % 16))) held i
+Inv-loop table line n first held₀ i₀ held i =
+    Filled (tally 0) held₀ (n * 16) (λ k. tally (counterFrom table (getD first (k / 16) 0) (chosen line (k / 16)) (k % 16))) held i
 
 abbrev μ-loop : tie.MeasureT-loop
-μ-loop received line n first held₀ i₀ held i = n * 16 - i
+μ-loop table line n first held₀ i₀ held i = n * 16 - i
 
 loop-holds : tie.Need-loop-holds Inv-loop μ-loop
 loop-holds c = filled-none (omega (arith, c .before .before .before .pre .0 .most))
@@ -76,7 +76,7 @@ loop-again c =
     let a = c .before .before .before .before .before .before .before .args in
     let at-loop = c .before .before .before .loop in
     let j = at-loop .i / 16 in
-    let f : ℕ → ℕ = counterFrom (a .received .now) (getD (a .rows .first) j 0) (chosen (a .t3) j) in
+    let f : ℕ → ℕ = counterFrom (a .table .now) (getD (a .rows .first) j 0) (chosen (a .t3) j) in
     let here = c .counter .ensures ∙ ap f (from-one (at-loop .i % 16)) in
     filled-more (at-loop .inv) (c .before .before .loop-test .taken) (tally-of here)
 
@@ -84,13 +84,13 @@ returns : tie.Need-returns Inv-loop μ-loop
 returns c =
     let at = c .before .before .before .before .before in
     let a = at .args in
-    let f : ℕ → ℕ → ℕ = λ j p. counterAt (a .rows .shape .counts) (a .received .now) j (chosen (a .t3) j) p in
+    let f : ℕ → ℕ → ℕ = λ j p. counterAt (a .rows .shape .counts) (a .table .now) j (chosen (a .t3) j) p in
     let filled = filled-as (c .before .loop .inv) {g = λ i. tally (f (i / 16) (i % 16))} (λ i h.
-    ap tally (placed-counter (at .pre .0 .placed) (i / 16) (there (c .before .before) i h) (a .received .now) (chosen (a .t3) (i / 16)) (i % 16))) in
+    ap tally (placed-counter (at .pre .0 .placed) (i / 16) (there (c .before .before) i h) (a .table .now) (chosen (a .t3) (i / 16)) (i % 16))) in
     filled-rows (a .rows .shape .n) f filled (c .loop-test .left)
 
-pub received-by-spec : {M : Type 1} → statement M
-received-by-spec =
+pub line-rows-spec : {M : Type 1} → statement M
+line-rows-spec =
     tie.close
     (tie.spec
     Inv-loop

@@ -1,0 +1,9 @@
+pub mod Asked
+pub mod Written
+pub mod Taken
+pub mod Sizes
+pub mod Whole
+pub mod Channels
+pub mod Orders
+pub mod Moved
+pub mod Theorems

@@ -1,0 +1,4 @@
+pub mod Formed
+pub mod OneEntry
+pub mod EntryLoop
+pub mod WholeList
