@@ -1,5 +1,4 @@
 -- `recovery_line_read_resend` meets its contract.
-use native.Mathlib.Omega.{arith}
 use borrow.Author.Needs.{needs}
 use Rattle.recovery_line.proofs.ResendCalls.{read-wrong, read-refused, read-taken}
 use Rattle.recovery_line.proofs.resends.recovery_line_read_resend.Statement.{statement}
