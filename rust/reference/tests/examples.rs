@@ -1,5 +1,8 @@
 //! 01's "Books and sessions tried", and K's example 6 message by message.
 
+mod hex;
+
+use hex::bytes;
 use reference::*;
 
 const K1: &str = "03 02 00 00 00 00 00 00 04 05 02 00 00 00 00 03 00 00 00 \
@@ -12,12 +15,6 @@ struct Tables {
     shape: Shape,
     sent: Vec<Counter>,
     received: Vec<Counter>,
-}
-
-fn bytes(hex: &str) -> Vec<u8> {
-    hex.split_whitespace()
-        .map(|byte| u8::from_str_radix(byte, 16).unwrap())
-        .collect()
 }
 
 fn read_bytes(book: &[u8]) -> Result<Tables, u32> {

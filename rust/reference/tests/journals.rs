@@ -1,17 +1,14 @@
 //! Journals: the books that they build, and the order of the questions.
 
+mod hex;
+
+use hex::bytes;
 use reference::*;
 
 const K1: &str = "03 02 00 00 00 00 00 00 04 05 02 00 00 00 00 03 00 00 00 \
                   02 00 00 00 00 07 00 00 00";
 const K6: &str = "03 04 00 00 00 00 00 01 00 00 01 01 01 00 02 01 02 00 \
                   04 00 00 00 00 00 00 01 00 01 00 02 00 02 00 03 00 02 00 00 00 00 00 00 01 00";
-
-fn bytes(hex: &str) -> Vec<u8> {
-    hex.split_whitespace()
-        .map(|byte| u8::from_str_radix(byte, 16).unwrap())
-        .collect()
-}
 
 /// The book that a journal builds, or the question that refuses it, nothing then changed.
 fn built(journal: &[u8]) -> Result<Vec<u8>, u32> {

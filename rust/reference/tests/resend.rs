@@ -1,5 +1,8 @@
 //! What to send again: lists of orders, and lists that are read.
 
+mod hex;
+
+use hex::bytes;
 use reference::*;
 
 /// K's example 1: on its line 1 2 2 process 2 has sent 3 messages to process 1, and 3 has sent 7, of which 1 has received none.
@@ -12,12 +15,6 @@ struct Tables {
     shape: Shape,
     sent: Vec<Counter>,
     received: Vec<Counter>,
-}
-
-fn bytes(hex: &str) -> Vec<u8> {
-    hex.split_whitespace()
-        .map(|byte| u8::from_str_radix(byte, 16).unwrap())
-        .collect()
 }
 
 fn tables(hex: &str) -> Tables {

@@ -7,7 +7,8 @@ use crate::text::{self, Answer};
 use crate::{calls, IN_WORDS};
 use recovery_line::sys;
 
-/// The purpose of a bare restart.
+/// The purpose that advances the line, and that of a bare restart.
+pub const ADVANCE: u64 = 1;
 pub const RESTART: u64 = 2;
 
 const WORDS: usize = sys::RECOVERY_LINE_ORDER_WORDS;

@@ -5,14 +5,11 @@
 //! order; of later checkpoints the line of either book. Only what is tried is taken from a line.
 
 use std::io;
-use vectors::moves::{self, Moved};
+use vectors::moves::{self, Moved, ADVANCE};
 use vectors::tables::{Set, Tables};
 use vectors::taken_off::{extends, TakenOff};
 use vectors::text::{self, Answer};
 use vectors::{books, edited_tables};
-
-/// The purpose that advances the line.
-const ADVANCE: u64 = 1;
 
 fn main() -> io::Result<()> {
     let unreadable = || Answer::unreadable("?");

@@ -7,7 +7,7 @@
 use std::io;
 use vectors::given::Given;
 use vectors::lists::{self, Entry, Read};
-use vectors::moves::{Moved, Order, RESTART};
+use vectors::moves::{Moved, Order, ADVANCE, RESTART};
 use vectors::tables::{Lent, Tables};
 use vectors::text::{self, Answer};
 
@@ -17,9 +17,6 @@ const WRONG_LENGTH: u32 = 100;
 
 /// The most room that a line may lend.
 const MOST_ROOM: u64 = 1 << 24;
-
-/// The purpose that advances the line.
-const ADVANCE: u64 = 1;
 
 fn main() -> io::Result<()> {
     let unreadable = || Answer::unreadable("?");
