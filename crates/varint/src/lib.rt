@@ -1,3 +1,4 @@
+#![tactic(auto)]
 // Seven-bit numbers (document 01, "The book"): groups of seven bits, lowest group first, one group a byte; the
 // byte's top bit is set when another group follows. Only the shortest form is a number.
 ghost use Rattle.std.specs.Prelude.{◌≡◌, ◌+◌, ◌≤◌, ◌<◌, length};
