@@ -1,3 +1,4 @@
+#![tactic(auto)]
 // Checkpoint books and their tables (document 01, "The book"): the values that every layer shares, and what the reader,
 // the check of tables and the writer have in common. The definitions that their contracts cite are this crate's specs.
 ghost use Rattle.std.specs.Prelude.{◌≡◌, false, ◌+◌, ◌-◌, ◌*◌, ◌≤◌, ◌<◌, length, replicate};
