@@ -28,29 +28,29 @@ pub const ROW_WIDTH: usize = 16;
 pub const ENTRIES: usize = 4096;
 
 // A process number, from 1 to n (K's j).
-#[derive(Drop)]
+#[derive(Clone, Copy)]
 pub struct Process(pub usize);
 
 // A checkpoint number within its process, from 1, the oldest (K's r).
-#[derive(Drop)]
+#[derive(Clone, Copy)]
 pub struct Checkpoint(pub usize);
 
 // An entry of a table.
 pub type Counter = u32;
 
 // A count of messages sent or received (K's counters).
-#[derive(Drop)]
+#[derive(Clone, Copy)]
 pub struct Count(pub Counter);
 
 // n, and how many checkpoints each of sixteen processes has; 0 for absent ones.
-#[derive(Drop)]
+#[derive(Clone, Copy)]
 pub struct Shape {
     pub n: usize,
     pub counts: [usize; 16],
 }
 
 // A shape, and the first row of each process in the tables: found once, so that no place is added up anew.
-#[derive(Drop)]
+#[derive(Clone, Copy)]
 pub struct TableRows {
     pub shape: Shape,
     pub first: [usize; 16],
@@ -58,14 +58,14 @@ pub struct TableRows {
 
 // The answer of a call whose result stands beside it or in lent tables: the number is that of the first question of
 // document 01 that fails.
-#[derive(Drop)]
+#[derive(Clone, Copy)]
 pub enum Answer {
     Accepted,
     Refused(u32),
 }
 
 // The answer to a write: how many bytes the book takes, or the question that refuses.
-#[derive(Drop)]
+#[derive(Clone, Copy)]
 pub enum WriteAnswer {
     Length(usize),
     Refused(u32),
