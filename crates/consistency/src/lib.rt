@@ -15,14 +15,14 @@ use book::{Checkpoint, Count, Counter, Process, Shape, TableRows};
 
 // One checkpoint against known sent counters: none of its received counters is higher, or this is the lowest partner of
 // whom one is.
-#[derive(Drop)]
+#[derive(Clone, Copy)]
 pub enum Permission {
     Permitted,
     Offends(Process),
 }
 
 // The answer of the call that tests one checkpoint.
-#[derive(Drop)]
+#[derive(Clone, Copy)]
 pub enum CheckpointAnswer {
     Permitted,
     Offends(Process),
@@ -31,7 +31,7 @@ pub enum CheckpointAnswer {
 
 // The answer to a test of a set: a pair (j, p) is at fault when j's checkpoint received more from p than p's sent to j. The
 // one shown has the lowest j, and for it the lowest p.
-#[derive(Drop)]
+#[derive(Clone, Copy)]
 pub enum SetAnswer {
     Consistent,
     AtFault(Process, Process),

@@ -15,7 +15,7 @@ ghost use Rattle.finder.specs.Steps.{AbsentZero, Named, SameSet, set_at, row_of,
 use book::{Answer, Checkpoint, Counter, Shape, TableRows};
 
 // The answer of `find_line`; beside a refusal all numbers are zero.
-#[derive(Drop)]
+#[derive(Clone, Copy)]
 pub struct FoundLine {
     pub answer: Answer,
     pub line: [Checkpoint; 16],
@@ -23,7 +23,7 @@ pub struct FoundLine {
 }
 
 // A line, and how many steps of one checkpoint back led to it.
-#[derive(Drop)]
+#[derive(Clone, Copy)]
 pub struct Line {
     pub set: [Checkpoint; 16],
     pub passed: usize,

@@ -24,7 +24,7 @@ use message::{Head, Message};
 
 // An initiator's state: its candidate; for every ordered pair of processes the sent counter of the sender's candidate, or
 // "not known" (K's V); the copy of that before the present wait (K's V'); who is awaited; and how many waits there were.
-#[derive(Drop)]
+#[derive(Clone, Copy)]
 pub struct Initiator {
     pub n: usize,
     pub me: Process,
@@ -38,7 +38,7 @@ pub struct Initiator {
 }
 
 // A state after a step, and what the step sends.
-#[derive(Drop)]
+#[derive(Clone, Copy)]
 pub struct InitiatorStep {
     pub state: Initiator,
     pub outgoing: Outgoing,
@@ -46,7 +46,7 @@ pub struct InitiatorStep {
 
 // The answer of `begin` and `receive`: the state afterwards, and the length written for each process. A refusal hands back the
 // state that was given, or one that is all zero (and ended) where none was, and all lengths are zero.
-#[derive(Drop)]
+#[derive(Clone, Copy)]
 pub struct InitiatorAnswer {
     pub answer: Answer,
     pub state: Initiator,

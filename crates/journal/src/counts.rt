@@ -7,7 +7,7 @@ use book::Process;
 
 // What one process has sent to each partner and received from each so far, and how many checkpoints it has. Sixteen bits are enough,
 // since no journal has more bytes than they count, and they are what is copied for each event.
-#[derive(Drop)]
+#[derive(Clone, Copy)]
 pub struct Counts {
     pub sent: [u16; 16],
     pub received: [u16; 16],

@@ -16,7 +16,7 @@ pub const LARGEST: u64 = 4294967295;
 
 // An event of a journal: a message sent by a process to a partner, one received by a process from a partner, or a checkpoint made by
 // a process.
-#[derive(Drop)]
+#[derive(Clone, Copy)]
 pub enum Event {
     Sent(Process, Process),
     Received(Process, Process),
@@ -24,14 +24,14 @@ pub enum Event {
 }
 
 // An event, and the place after it.
-#[derive(Drop)]
+#[derive(Clone, Copy)]
 pub struct Placed {
     pub event: Event,
     pub next: usize,
 }
 
 // What stands at a place of a journal.
-#[derive(Drop)]
+#[derive(Clone, Copy)]
 pub enum EventRead {
     // An event, and the place after it.
     Found(Event, usize),

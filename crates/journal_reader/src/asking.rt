@@ -11,14 +11,14 @@ use journal::{Event, EventRead};
 use varint::Numeral;
 
 // What the pass finds: the question that fails first, 0 for none, and the shape of the book that the journal builds.
-#[derive(Drop)]
+#[derive(Clone, Copy)]
 pub struct Asked {
     pub question: u32,
     pub shape: Shape,
 }
 
 // How an event was passed: the question that it fails first, 0 for none, and how many checkpoints there are then.
-#[derive(Drop)]
+#[derive(Clone, Copy)]
 struct Step {
     pub question: u32,
     pub total: usize,

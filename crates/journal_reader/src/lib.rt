@@ -10,7 +10,7 @@ ghost use Rattle.journal.specs.Calls.{journal_question, shape_built, sent_built,
 use book::{Answer, Counter, Shape};
 
 // The answer to a journal, with the shape of the book that it builds beside it; a refusal has zeros there.
-#[derive(Drop)]
+#[derive(Clone, Copy)]
 pub struct JournalRead {
     pub answer: Answer,
     pub shape: Shape,

@@ -13,7 +13,7 @@ use book::{Answer, Checkpoint, Counter, Process, Shape, WriteAnswer};
 pub const ROOM: usize = 512;
 
 // The first `len` bytes are the text.
-#[derive(Drop)]
+#[derive(Clone, Copy)]
 pub struct Text {
     pub bytes: [u8; ROOM],
     pub len: usize,

@@ -11,7 +11,7 @@ use book::{Count, Process};
 use message::{Head, Message};
 
 // The messages of one step: one head for all, who gets one, and for each of them a row of news.
-#[derive(Drop)]
+#[derive(Clone, Copy)]
 pub struct Outgoing {
     pub head: Head,
     pub to: [bool; 16],
@@ -19,7 +19,7 @@ pub struct Outgoing {
 }
 
 // Whether the messages fit (0 or question 17), and the length for each process.
-#[derive(Drop)]
+#[derive(Clone, Copy)]
 pub struct Sent {
     pub question: u32,
     pub lengths: [usize; 16],

@@ -15,7 +15,7 @@ pub const HEAD_SIZE: usize = 4;
 pub const PAIR_SIZE: usize = 1 + book::GROUPS as usize;
 
 // What stands before the pairs of a message.
-#[derive(Drop)]
+#[derive(Clone, Copy)]
 pub struct Head {
     pub kind: u64,
     pub purpose: u64,
@@ -23,28 +23,28 @@ pub struct Head {
 }
 
 // A message: its head, and for each process the counter that a pair names, or the mark where none does.
-#[derive(Drop)]
+#[derive(Clone, Copy)]
 pub struct Message {
     pub head: Head,
     pub news: [Count; 16],
 }
 
 // A formed head, and the place after it.
-#[derive(Drop)]
+#[derive(Clone, Copy)]
 pub enum HeadRead {
     Found(Head, usize),
     Refused,
 }
 
 // Whether pairs are formed up to the end of the bytes, and what they carry.
-#[derive(Drop)]
+#[derive(Clone, Copy)]
 pub struct PairsRead {
     pub formed: bool,
     pub news: [Count; 16],
 }
 
 // Whether a message is formed, and the message, all zero where it is not.
-#[derive(Drop)]
+#[derive(Clone, Copy)]
 pub struct ReadMessage {
     pub formed: bool,
     pub message: Message,

@@ -14,7 +14,7 @@ use restart::{Order, Plan};
 
 // The answer of `move_line`: the shape of the moved tables, and the restart order. A refusal hands back the shape that it was given,
 // and an order of zeros.
-#[derive(Drop)]
+#[derive(Clone, Copy)]
 pub struct Moved {
     pub answer: Answer,
     pub shape: Shape,

@@ -17,7 +17,7 @@ use mail::Outgoing;
 use message::ReadMessage;
 
 // How far a participant has come: before the invitation, in the search, or ended.
-#[derive(Drop)]
+#[derive(Clone, Copy)]
 pub enum Stage {
     Before,
     Searching,
@@ -26,7 +26,7 @@ pub enum Stage {
 
 // A participant's state: its candidate, the row of sent counters that it last reported, and the column of sent counters that
 // it knows of the others.
-#[derive(Drop)]
+#[derive(Clone, Copy)]
 pub struct Participant {
     pub n: usize,
     pub me: Process,
@@ -39,14 +39,14 @@ pub struct Participant {
 }
 
 // A state after a step, and what the step sends.
-#[derive(Drop)]
+#[derive(Clone, Copy)]
 pub struct ParticipantStep {
     pub state: Participant,
     pub outgoing: Outgoing,
 }
 
 // The answer of `first`; beside a refusal the state is all zero.
-#[derive(Drop)]
+#[derive(Clone, Copy)]
 pub struct ParticipantFirst {
     pub answer: Answer,
     pub state: Participant,
@@ -54,7 +54,7 @@ pub struct ParticipantFirst {
 
 // The answer of `receive`: the state afterwards, and the length written for each process. A refusal hands back the state it
 // was given, and all lengths are zero.
-#[derive(Drop)]
+#[derive(Clone, Copy)]
 pub struct ParticipantAnswer {
     pub answer: Answer,
     pub state: Participant,

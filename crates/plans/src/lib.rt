@@ -19,7 +19,7 @@ use book::{Answer, Checkpoint, Count, Counter, Process, Shape, TableRows};
 use restart::{Order, Plan, Resend, TakenOff};
 
 // The answer of `restart_order`; beside a refusal all numbers are zero.
-#[derive(Drop)]
+#[derive(Clone, Copy)]
 pub struct OrderAnswer {
     pub answer: Answer,
     pub order: Order,

@@ -11,14 +11,14 @@ use book::{Answer, Counter, Shape};
 use varint::Numeral;
 
 // How a part of the book was passed: the question that it fails first, 0 for none, and the place after it.
-#[derive(Drop)]
+#[derive(Clone, Copy)]
 struct Step {
     pub question: u32,
     pub next: usize,
 }
 
 // How a process was passed, with its count of checkpoints.
-#[derive(Drop)]
+#[derive(Clone, Copy)]
 struct Counted {
     pub question: u32,
     pub next: usize,
@@ -26,14 +26,14 @@ struct Counted {
 }
 
 // What a check of the whole book finds: the question that it fails first, 0 for none, and the book's shape.
-#[derive(Drop)]
+#[derive(Clone, Copy)]
 pub struct Checked {
     pub question: u32,
     pub shape: Shape,
 }
 
 // The answer to a read, with the book's shape beside it; a refusal has zeros there.
-#[derive(Drop)]
+#[derive(Clone, Copy)]
 pub struct ReadBook {
     pub answer: Answer,
     pub shape: Shape,

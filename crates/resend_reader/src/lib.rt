@@ -13,14 +13,14 @@ use restart::Resend;
 use varint::Numeral;
 
 // The answer of `read`; beside a refusal there is nothing to send again.
-#[derive(Drop)]
+#[derive(Clone, Copy)]
 pub struct ListAnswer {
     pub answer: Answer,
     pub resend: Resend,
 }
 
 // The four numbers of an entry, before any is asked.
-#[derive(Drop)]
+#[derive(Clone, Copy)]
 pub struct Entry {
     pub sender: u64,
     pub receiver: u64,
@@ -29,7 +29,7 @@ pub struct Entry {
 }
 
 // What stands at a place of a list.
-#[derive(Drop)]
+#[derive(Clone, Copy)]
 pub enum EntryRead {
     // Four numbers, and the place after them.
     Found(Entry, usize),

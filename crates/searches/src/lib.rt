@@ -17,7 +17,7 @@ use session::Session;
 
 // The answer of `run`: the book's shape, and the session after the turns. Beside a refusal both are all zero (and the initiator
 // ended).
-#[derive(Drop)]
+#[derive(Clone, Copy)]
 pub struct RunAnswer {
     pub answer: Answer,
     pub shape: Shape,
@@ -26,7 +26,7 @@ pub struct RunAnswer {
 
 // The answer of `search`: the checkpoint that each worker has ended on, how many are newer than these, how many rounds it took
 // and how many messages were delivered. Beside a refusal all is zero.
-#[derive(Drop)]
+#[derive(Clone, Copy)]
 pub struct SearchAnswer {
     pub answer: Answer,
     pub set: [Checkpoint; 16],

@@ -7,7 +7,7 @@ use participant::Participant;
 
 // What a strand holds: nothing; a message to the participant that it answers by a report (a searching invitation, a poll), or
 // that ends it (a termination, the invitation of a restart); a report; or something that passes at neither end.
-#[derive(Drop)]
+#[derive(Clone, Copy)]
 pub enum Waiting {
     Nothing,
     Asking,
@@ -18,7 +18,7 @@ pub enum Waiting {
 
 // A session: the initiator's machine, a participant's machine at each other process's place, how many bytes wait on each
 // strand (0 for no message; they lie in a lent buffer), and how many messages were delivered.
-#[derive(Drop)]
+#[derive(Clone, Copy)]
 pub struct Session {
     pub n: usize,
     pub initiator: Process,
@@ -31,7 +31,7 @@ pub struct Session {
 
 // A session whose machines have taken a step, and what the step puts on strands: here a message is addressed by the participant
 // whose strand it is put on, also where it goes to the initiator.
-#[derive(Drop)]
+#[derive(Clone, Copy)]
 pub struct Turned {
     pub session: Session,
     pub outgoing: Outgoing,
@@ -39,7 +39,7 @@ pub struct Turned {
 
 // The answer of `start` and `turn`: the session afterwards. A refused turn hands back the session that it was given; beside a
 // refused start all is zero (and the initiator ended).
-#[derive(Drop)]
+#[derive(Clone, Copy)]
 pub struct SessionAnswer {
     pub answer: Answer,
     pub session: Session,

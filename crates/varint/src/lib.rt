@@ -8,7 +8,7 @@ ghost use Rattle.varint.specs.Number.{encode, read_number};
 ghost use Rattle.varint.specs.Write.{place_after, number_put};
 
 // What stands at a place.
-#[derive(Drop)]
+#[derive(Clone, Copy)]
 pub enum Numeral {
     // A number, and the place after it.
     Number(u64, usize),
@@ -17,7 +17,7 @@ pub enum Numeral {
 }
 
 // The place after a number that was written.
-#[derive(Drop)]
+#[derive(Clone, Copy)]
 pub enum Written {
     Next(usize),
     // There was no room, and nothing was written.
