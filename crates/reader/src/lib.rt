@@ -1,3 +1,4 @@
+#![tactic(auto)]
 // Reading a book (document 01, questions 1 to 9): one pass along the bytes, which asks everything and puts the counters into
 // tables of its own. Only those of an accepted book are copied to the lent ones, so that a refusal has touched nothing.
 ghost use Rattle.std.specs.Prelude.{◌≡◌, ◌≤◌, ◌<◌, length};
