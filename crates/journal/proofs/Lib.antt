@@ -7,4 +7,3 @@ pub mod Numbers
 pub mod Short
 pub mod Running
 pub mod Accepted
-pub mod Lent

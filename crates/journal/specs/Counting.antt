@@ -1,6 +1,6 @@
 -- Document 02, E1: "On each channel, messages sent equal those received plus those underway, each counted over the journal's events".
 -- Processes count from 1, as in the journal.
-use Rattle.std.specs.Prelude.{Bool, false, ◌&&◌, not, List, [], ◌∷◌, ℕ, zero, suc, ◌+◌, leb, eqb}
+use Rattle.std.specs.Prelude.{Bool, false, ◌&&◌, not, List, [], ◌∷◌, ℕ, suc, ◌+◌, leb, eqb}
 use Rattle.lists.specs.Over.{sum_to}
 use Rattle.lists.specs.Pick.{pick}
 use Rattle.journal.specs.declared.Event.{Event}

@@ -1,6 +1,6 @@
 -- Document 02, E1: "Per event, a shape not as above .. gives 19, then question 10 is put, then a receipt with nothing underway gives
 -- 20, then question 5." Where no event stands, there is none to put the others to.
-use Rattle.std.specs.Prelude.{Bool, true, ◌&&◌, List, [], ◌∷◌, ◌++◌, ℕ, suc, ◌+◌, leb}
+use Rattle.std.specs.Prelude.{Bool, true, ◌&&◌, List, [], ◌∷◌, ◌++◌, ℕ, suc, leb}
 use Rattle.lists.specs.Over.{sum_to}
 use Rattle.book.specs.Bounds.{most_checkpoints}
 use Rattle.book.specs.Names.{is_named}

@@ -1,3 +1,4 @@
+#![tactic(auto)]
 // Journals (document 02, E1): workers log events instead of keeping counters. The definitions that the contracts of the reader of
 // journals cite are this crate's specs; here are an event as a value, and an event read from bytes.
 pub mod counts;
