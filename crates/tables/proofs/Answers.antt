@@ -1,8 +1,7 @@
 -- What one answer `a` tells of the answer to the whole, which begins with it.
 use mathlib.Core.Path.{◌≡◌, sym, ◌∙◌}
-use mathlib.Core.Bool.{Bool, true, false, not, ◌&&◌}
+use mathlib.Core.Bool.{Bool, true, false, ◌&&◌}
 use Prim.Native.Nat.{ℕ}
-use borrow.Author.Tests.{not-true, not-false}
 use Rattle.book.specs.InTurn.{◌then◌}
 use Rattle.book.proofs.Questions.{then_passed, then_refused}
 
@@ -14,8 +13,8 @@ module _ (whole a q : ℕ) (later : Unit {0} → ℕ) (e : whole ≡ (q then lat
   answer_passes z = e ∙ then_passed q later (sym same ∙ z)
 
 module _ (whole a b rest : Bool) (e : whole ≡ (b && rest)) (same : a ≡ b) where
-  pub test_fails : not a ≡ true → false ≡ whole
-  test_fails f = sym (e ∙ rw (sym same ∙ not-true a f))
+  pub test_fails : a ≡ false → false ≡ whole
+  test_fails f = sym (e ∙ rw (sym same ∙ f))
 
-  pub test_passes : not a ≡ false → whole ≡ rest
-  test_passes f = e ∙ rw (sym same ∙ not-false a f)
+  pub test_passes : a ≡ true → whole ≡ rest
+  test_passes f = e ∙ rw (sym same ∙ f)

@@ -1,9 +1,9 @@
 -- The questions of tables in their order: what each answer tells of the whole.
 use mathlib.Core.Path.{◌≡◌, refl, sym, ◌∙◌}
-use mathlib.Core.Bool.{Bool, true, false, not}
+use mathlib.Core.Bool.{Bool, true, false}
 use Prim.Native.Nat.{ℕ, ◌≤◌, ◌<◌}
 use native.Mathlib.Omega.{arith}
-use borrow.Author.Tests.{le-leb, lt-leb, not-true, not-false}
+use borrow.Author.Tests.{le-leb, lt-leb}
 use lib.ListN.{take}
 use Rattle.book.specs.Lent.{Tables}
 use Rattle.book.specs.declared.Shape.{Shape}
@@ -81,11 +81,11 @@ module _ (t : Tables) where
             unfolding rows unused
             asked = rw of_unused (answer_passes _ b rows (λ _. unused) counted of_rows q)
 
-            pub unused_fails : not u ≡ true → 9 ≡ contents_question t
-            unused_fails f = sym (asked ∙ ask_no 9 u (not-true u f))
+            pub unused_fails : u ≡ false → 9 ≡ contents_question t
+            unused_fails f = sym (asked ∙ ask_no 9 u f)
 
-            pub all_passed : not u ≡ false → 0 ≡ contents_question t
-            all_passed f = sym (asked ∙ ask_yes 9 u (not-false u f))
+            pub all_passed : u ≡ true → 0 ≡ contents_question t
+            all_passed f = sym (asked ∙ ask_yes 9 u f)
 
         pub all_sound : Passed t → 0 ≡ contents_question t
         all_sound s = all_passed 0 (sym s.rows) refl true (sym s.unused) refl

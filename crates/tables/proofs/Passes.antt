@@ -1,6 +1,6 @@
 -- Sound tables pass questions 6 to 9: each question finds nothing.
-use mathlib.Core.Path.{◌≡◌, refl, sym, ap, subst, ◌∙◌}
-use mathlib.Core.Bool.{Bool, true, false, not}
+use mathlib.Core.Path.{◌≡◌, refl, sym, subst, ◌∙◌}
+use mathlib.Core.Bool.{Bool, true, false}
 use mathlib.Core.List.{List}
 use Prim.Native.Nat.{ℕ, zero, suc, ◌+◌, ◌-◌, ◌*◌, ◌<◌}
 use native.Mathlib.Nat.{add-zero}
@@ -67,7 +67,7 @@ module _ (zeros : Bool) (n j first count : ℕ) (table : List ℕ) (fits : RowsF
       let whole : Bool = all_zero (unused_of n j count (drop (first * 16) table)) in
       sym (clear_end whole n j first count table count
       (repeated (Clear whole n j first count table) count (clear_none n j first count table fits)
-      (λ r h t. clear_more whole n j first count table r t h (sound.own r h) _ refl (ap not (absent r h))))
+      (λ r h t. clear_more whole n j first count table r t h (sound.own r h) _ refl (absent r h)))
       (omega arith))
     where
       absent : (r : ℕ) → r < count → all_zero (slice ((first + r) * 16 + n) ((first + r) * 16 + 16) table) ≡ true
@@ -113,7 +113,7 @@ module _ (n : ℕ) (counts : List ℕ) (long : length counts ≡ 16) where
       (repeated (λ j. Cleared whole n counts table (first_row counts j) j) n (cleared_none n counts table b long)
       (λ j h t. subst (λ f. Cleared whole n counts table f (j + 1)) ((starts_carried counts).next j (first_row counts j) refl)
       (cleared_more whole n counts table (first_row counts j) j t h _ refl
-      (ap not (unused_passes zeros n j (first_row counts j) (get_or counts j 0) table (rows_fit b h refl) (s.rows j h))))))
+      (unused_passes zeros n j (first_row counts j) (get_or counts j 0) table (rows_fit b h refl) (s.rows j h)))))
       (omega arith))
       ∙ each_zeros (first_row counts n * 16) 4096 table (omega (arith, b.whole)) s.after
 

@@ -1,6 +1,6 @@
 -- Question 9 of one table: loops along the rows of a process, and along the processes.
 use mathlib.Core.Path.{◌≡◌, refl, sym, ap, ◌∙◌}
-use mathlib.Core.Bool.{Bool, true, false, not, ◌&&◌}
+use mathlib.Core.Bool.{Bool, true, false, ◌&&◌}
 use mathlib.Core.List.{List, [], ◌∷◌, ◌++◌}
 use Prim.Native.Nat.{ℕ, suc, ◌+◌, ◌-◌, ◌*◌, ◌≤◌, ◌<◌}
 use native.Mathlib.Nat.{add-zero}
@@ -70,11 +70,11 @@ module _ (whole : Bool) (n j first count : ℕ) (table : List ℕ) (r : ℕ) (t 
       unfolding own
       after_own = next ∙ zero_more own (absent ++ later) z ∙ zero_append absent later
 
-      pub absent_fails : not a ≡ true → false ≡ whole
+      pub absent_fails : a ≡ false → false ≡ whole
       unfolding absent
       absent_fails f = test_fails whole a (all_zero absent) (all_zero later) after_own same f
 
-      pub clear_more : not a ≡ false → Clear whole n j first count table (r + 1)
+      pub clear_more : a ≡ true → Clear whole n j first count table (r + 1)
       unfolding absent later
       clear_more f =
           record {
@@ -124,10 +124,10 @@ module _ (whole : Bool) (n : ℕ) (counts table : List ℕ) (first j : ℕ) (t :
         ∙ ap (λ (l : List ℕ). all_zero (unused_from n j l (drop (first * 16) table))) (counts_next counts n first j t.placed h)
         ∙ from_next n j (get_or counts j 0) (slice (j + 1) n counts) (drop (first * 16) table))
 
-    pub cleared_fails : not a ≡ true → false ≡ whole
+    pub cleared_fails : a ≡ false → false ≡ whole
     cleared_fails f = test_fails whole a _ left next_process same f
 
-    pub cleared_more : not a ≡ false → Cleared whole n counts table (first + get_or counts j 0) (j + 1)
+    pub cleared_more : a ≡ true → Cleared whole n counts table (first + get_or counts j 0) (j + 1)
     unfolding left
     cleared_more f =
         record {

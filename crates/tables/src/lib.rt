@@ -1,3 +1,4 @@
+#![tactic(auto)]
 // The questions that lent tables meet (document 01, questions 2 and 4 to 9), put by every call that takes tables.
 mod quick;
 
