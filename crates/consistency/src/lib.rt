@@ -1,3 +1,4 @@
+#![tactic(auto)]
 // Document 01, "The line", and 02, E3: testing a named set of checkpoints, and one checkpoint against known sent counters; and
 // what every search needs: the newest checkpoint that they permit.
 ghost use Rattle.std.specs.Prelude.{◌≡◌, ◌-◌, ◌≤◌};
