@@ -1,3 +1,4 @@
+#![tactic(auto)]
 // Document 01, "A search": what a machine knows of sent counters, as rows of sixteen entries and a matrix of sixteen rows,
 // and what differs between two rows.
 mod whole;
