@@ -1,3 +1,4 @@
+#![tactic(auto)]
 // What crosses to other languages as words of 64 bits: the definitions of every value, and the code of those that are numbers.
 pub mod layout;
 

@@ -1,0 +1,14 @@
+-- `row_at` meets its contract. The invariant: the counters so far are those in the words.
+use Prim.Native.Nat.{◌+◌, ◌-◌}
+use Rattle.book.specs.declared.Count.{Count}
+use Rattle.book.specs.Bounds.{most_processes}
+use Rattle.words.specs.Words.{word, counter_in}
+use Rattle.lists.proofs.Filling.{Filled}
+use Rattle.words.proofs.row_at.Given as goal
+
+abbrev pub invariant-loop-i : goal.invariant-loop-i
+invariant-loop-i l =
+    Filled {A = Count} (record { 0 = 0 }) l.initial.counts most_processes (λ k. record { 0 = counter_in (word l.words (l.at + k)) }) l.counts l.i
+
+abbrev pub decreases-loop-i : goal.decreases-loop-i
+decreases-loop-i l = most_processes - l.i
