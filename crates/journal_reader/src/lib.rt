@@ -1,3 +1,4 @@
+#![tactic(auto)]
 // Taking a journal (document 02, E1): one pass along the bytes that puts every question, and one that fills the lent tables. The
 // first learns how many checkpoints each process has, without which no row has its place.
 mod asking;
