@@ -1,3 +1,4 @@
+#![tactic(auto)]
 // Document 01, "Message (own)": messages as data and as bytes, and reading them.
 ghost use Rattle.std.specs.Prelude.{◌≡◌, ◌≤◌, ◌<◌};
 ghost use Rattle.book.specs.Bounds.{mark};
@@ -30,21 +31,21 @@ pub struct Message {
 }
 
 // A formed head, and the place after it.
-#[derive(Clone, Copy)]
+#[derive(Drop)]
 pub enum HeadRead {
     Found(Head, usize),
     Refused,
 }
 
 // Whether pairs are formed up to the end of the bytes, and what they carry.
-#[derive(Clone, Copy)]
+#[derive(Drop)]
 pub struct PairsRead {
     pub formed: bool,
     pub news: [Count; 16],
 }
 
 // Whether a message is formed, and the message, all zero where it is not.
-#[derive(Clone, Copy)]
+#[derive(Drop)]
 pub struct ReadMessage {
     pub formed: bool,
     pub message: Message,

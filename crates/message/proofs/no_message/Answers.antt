@@ -3,12 +3,8 @@ use mathlib.Core.Path.{refl}
 use Rattle.lists.specs.Over.{tab_from}
 use Rattle.matrix.specs.Matrix.{as_row}
 use Rattle.message.specs.Read.{no_message}
-use Rattle.message.proofs.no_message.Statement.{statement}
-use Rattle.message.proofs.no_message.Tie as tie
+use Rattle.message.proofs.no_message.Goals as goal
 
-returns : tie.Need-returns
+pub returns : goal.returns
 unfolding no_message as_row tab_from
 returns c = refl
-
-pub no-message-spec : {M : Type 1} → statement M
-no-message-spec = tie.close (tie.spec returns)
