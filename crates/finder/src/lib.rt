@@ -1,3 +1,4 @@
+#![tactic(auto)]
 // Document 01, "The line": finding it, the consistent set that is nowhere earlier than any other.
 ghost use Rattle.std.specs.Prelude.{◌≡◌, ◌≤◌, ◌<◌, length};
 ghost use Rattle.book.specs.Lent.{lent};
