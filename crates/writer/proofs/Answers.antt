@@ -11,7 +11,7 @@ use lib.Dec.{eqb, leb}
 use Rattle.book.specs.Lent.{Tables}
 use Rattle.book.specs.declared.WriteAnswer.TheVariants.{Length, Refused}
 use Rattle.book.specs.View.{sum}
-use Rattle.book.specs.InTurn.{◌then◌, ask}
+use Rattle.book.specs.InTurn.{ask}
 use Rattle.book.specs.Questions.{size_question, length_question}
 use Rattle.book.specs.Check.{counts_question, contents_question, tables_question}
 use Rattle.book.specs.Write.{bytes_of, length_or, write_question, answer_to_write, bytes_written}

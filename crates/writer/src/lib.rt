@@ -1,3 +1,4 @@
+#![tactic(auto)]
 // Writing a book: accepted tables to the bytes of document 01, at the start of a lent buffer.
 ghost use Rattle.std.specs.Prelude.{◌≡◌, ◌+◌, ◌*◌, ◌≤◌, ◌<◌, length, get_or, leb};
 ghost use Rattle.std.proofs.lemmas.List.Edits.{sets};
