@@ -31,21 +31,21 @@ pub struct Message {
 }
 
 // A formed head, and the place after it.
-#[derive(Drop)]
+#[derive(Clone, Copy)]
 pub enum HeadRead {
     Found(Head, usize),
     Refused,
 }
 
 // Whether pairs are formed up to the end of the bytes, and what they carry.
-#[derive(Drop)]
+#[derive(Clone, Copy)]
 pub struct PairsRead {
     pub formed: bool,
     pub news: [Count; 16],
 }
 
 // Whether a message is formed, and the message, all zero where it is not.
-#[derive(Drop)]
+#[derive(Clone, Copy)]
 pub struct ReadMessage {
     pub formed: bool,
     pub message: Message,
