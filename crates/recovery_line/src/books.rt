@@ -5,8 +5,7 @@ ghost use Rattle.recovery_line.specs.Books.{read_answer, read_shape, read_sent, 
 use book::{Counter, WriteAnswer};
 
 // A book's bytes into the tables, with its shape.
-#[unsafe(no_mangle)]
-pub extern "C" fn recovery_line_read(
+pub fn recovery_line_read(
     bytes: &[u8],
     shape: &mut [u64],
     sent: &mut [Counter],
@@ -33,8 +32,7 @@ pub extern "C" fn recovery_line_read(
 }
 
 // The questions of lent tables.
-#[unsafe(no_mangle)]
-pub extern "C" fn recovery_line_check(shape: &[u64], sent: &[Counter], received: &[Counter]) -> u32
+pub fn recovery_line_check(shape: &[u64], sent: &[Counter], received: &[Counter]) -> u32
     ensures { result ≡ check_answer shape.now sent.now received.now }
 {
     let question = crate::shape_question(shape.len());
@@ -46,8 +44,7 @@ pub extern "C" fn recovery_line_check(shape: &[u64], sent: &[Counter], received:
 }
 
 // The book of the tables to the start of a buffer, and its length.
-#[unsafe(no_mangle)]
-pub extern "C" fn recovery_line_write(
+pub fn recovery_line_write(
     shape: &[u64],
     sent: &[Counter],
     received: &[Counter],

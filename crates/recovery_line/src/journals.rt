@@ -5,8 +5,7 @@ ghost use Rattle.recovery_line.specs.Journals.{journal_answer, journal_shape, jo
 use book::Counter;
 
 // The book that a journal builds into the tables, with its shape.
-#[unsafe(no_mangle)]
-pub extern "C" fn recovery_line_journal(
+pub fn recovery_line_journal(
     bytes: &[u8],
     shape: &mut [u64],
     sent: &mut [Counter],

@@ -1,15 +1,15 @@
-// The library that workers in C, C++ and Rust link: every call of documents 01 and 02 as an exported function over numbers and slices.
+#![tactic(auto)]
+// Every call of documents 01 and 02 as a function over numbers and slices, which the static library recovery_line_c exports.
 // Shapes, sets, states, sessions, orders and lists of what to send again cross as words. Every call answers 0, or the number that refuses: first
 // WRONG_LENGTH for a slice of words, or of sixteen counters, of another length than its own, then the questions of the call inside.
-// include/recovery_line.h declares these functions; `tests/declarations` compares the two.
-mod books;
-mod journals;
-mod lines;
-mod machines;
-mod moved;
-mod resends;
-mod sessions;
-mod version;
+pub mod books;
+pub mod journals;
+pub mod lines;
+pub mod machines;
+pub mod moved;
+pub mod resends;
+pub mod sessions;
+pub mod version;
 
 ghost use Rattle.std.specs.Prelude.{◌≡◌, ◌&&◌, eqb};
 ghost use Rattle.book.specs.InTurn.{ask};

@@ -17,8 +17,7 @@ fn put_pair(j: usize, p: usize, pair: &mut [u64])
 }
 
 // Is a set consistent? The first pair at fault, or zeros.
-#[unsafe(no_mangle)]
-pub extern "C" fn recovery_line_test_set(
+pub fn recovery_line_test_set(
     shape: &[u64],
     sent: &[Counter],
     received: &[Counter],
@@ -55,8 +54,7 @@ pub extern "C" fn recovery_line_test_set(
 }
 
 // Has a checkpoint received more than is known to be sent to its process? The lowest partner that shows it, or zero.
-#[unsafe(no_mangle)]
-pub extern "C" fn recovery_line_test_checkpoint(
+pub fn recovery_line_test_checkpoint(
     shape: &[u64],
     sent: &[Counter],
     received: &[Counter],
@@ -91,8 +89,7 @@ pub extern "C" fn recovery_line_test_checkpoint(
 }
 
 // The line, and T.
-#[unsafe(no_mangle)]
-pub extern "C" fn recovery_line_find(
+pub fn recovery_line_find(
     shape: &[u64],
     sent: &[Counter],
     received: &[Counter],

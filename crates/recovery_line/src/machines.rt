@@ -8,8 +8,7 @@ use participant::Participant;
 use words::layout;
 
 // A participant's first state.
-#[unsafe(no_mangle)]
-pub extern "C" fn recovery_line_participant_first(
+pub fn recovery_line_participant_first(
     shape: &[u64],
     sent: &[Counter],
     received: &[Counter],
@@ -40,8 +39,7 @@ pub extern "C" fn recovery_line_participant_first(
 }
 
 // A participant receives a message.
-#[unsafe(no_mangle)]
-pub extern "C" fn recovery_line_participant_receive(
+pub fn recovery_line_participant_receive(
     state: &mut [u64],
     shape: &[u64],
     sent: &[Counter],
@@ -81,8 +79,7 @@ pub extern "C" fn recovery_line_participant_receive(
 }
 
 // An initiator begins a search, or a bare restart.
-#[unsafe(no_mangle)]
-pub extern "C" fn recovery_line_initiator_begin(
+pub fn recovery_line_initiator_begin(
     shape: &[u64],
     sent: &[Counter],
     received: &[Counter],
@@ -123,8 +120,7 @@ pub extern "C" fn recovery_line_initiator_begin(
 }
 
 // An initiator receives a report.
-#[unsafe(no_mangle)]
-pub extern "C" fn recovery_line_initiator_receive(
+pub fn recovery_line_initiator_receive(
     state: &mut [u64],
     shape: &[u64],
     sent: &[Counter],

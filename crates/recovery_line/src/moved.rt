@@ -6,8 +6,7 @@ use book::Counter;
 use words::layout;
 
 // The line moved in the tables, with the restart order.
-#[unsafe(no_mangle)]
-pub extern "C" fn recovery_line_move(
+pub fn recovery_line_move(
     shape: &mut [u64],
     sent: &mut [Counter],
     received: &mut [Counter],
@@ -39,8 +38,7 @@ pub extern "C" fn recovery_line_move(
 }
 
 // The restart order, and nothing moved.
-#[unsafe(no_mangle)]
-pub extern "C" fn recovery_line_restart_order(
+pub fn recovery_line_restart_order(
     shape: &[u64],
     sent: &[Counter],
     received: &[Counter],

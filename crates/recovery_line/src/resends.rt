@@ -6,8 +6,7 @@ use book::{Counter, WriteAnswer};
 use words::layout;
 
 // The list of the tables' restart order to the start of a buffer, and its length.
-#[unsafe(no_mangle)]
-pub extern "C" fn recovery_line_write_resend(
+pub fn recovery_line_write_resend(
     shape: &[u64],
     sent: &[Counter],
     received: &[Counter],
@@ -35,8 +34,7 @@ pub extern "C" fn recovery_line_write_resend(
 }
 
 // A list among n processes from its bytes.
-#[unsafe(no_mangle)]
-pub extern "C" fn recovery_line_read_resend(n: u64, bytes: &[u8], resend: &mut [u64]) -> u32
+pub fn recovery_line_read_resend(n: u64, bytes: &[u8], resend: &mut [u64]) -> u32
     ensures value { result ≡ read_resend_answer n bytes.now resend.old }
     ensures resend_after { resend.new ≡ read_resend_list n bytes.now resend.old }
 {

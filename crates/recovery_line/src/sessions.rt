@@ -6,8 +6,7 @@ use book::{Counter, Process};
 use words::layout;
 
 // A session begins.
-#[unsafe(no_mangle)]
-pub extern "C" fn recovery_line_session_start(
+pub fn recovery_line_session_start(
     shape: &[u64],
     sent: &[Counter],
     received: &[Counter],
@@ -38,8 +37,7 @@ pub extern "C" fn recovery_line_session_start(
 }
 
 // A turn on process p's strand.
-#[unsafe(no_mangle)]
-pub extern "C" fn recovery_line_session_turn(
+pub fn recovery_line_session_turn(
     session: &mut [u64],
     shape: &[u64],
     sent: &[Counter],
@@ -70,8 +68,7 @@ pub extern "C" fn recovery_line_session_turn(
 }
 
 // A search from its start to its end.
-#[unsafe(no_mangle)]
-pub extern "C" fn recovery_line_search(
+pub fn recovery_line_search(
     shape: &[u64],
     sent: &[Counter],
     received: &[Counter],

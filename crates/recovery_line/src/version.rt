@@ -5,8 +5,7 @@ ghost use Rattle.recovery_line.specs.Version.{version};
 pub const VERSION: u32 = 5;
 
 // The number that the header of this archive has as RECOVERY_LINE_VERSION.
-#[unsafe(no_mangle)]
-pub extern "C" fn recovery_line_version() -> u32
+pub fn recovery_line_version() -> u32
     ensures { result ≡ version }
 {
     VERSION
