@@ -1,3 +1,4 @@
+#![tactic(auto)]
 // The machines' states and sessions as words: taken out of a slice, and put into one. The definitions are those of `words`.
 mod sessions;
 
