@@ -1,3 +1,4 @@
+#![tactic(auto)]
 // Document 01, "The move (K 5.4)": what a move will do, as a plan by value, and the restart order with what is sent again (02, E5).
 // Nothing is changed here.
 ghost use Rattle.std.specs.Prelude.{◌≡◌, ◌-◌, ◌≤◌};
