@@ -43,8 +43,8 @@ half_received =
     }
 
 -- in such books the line, the move, and the checkpoint appended; then the line of both, each by its own numbers
-pub record InFlight (books : Books) (line_Before line_whole line_longer : List ℕ) : Type 0 where
-  pub line : line_found books.before ≡ set_of line_Before
+pub record InFlight (books : Books) (line_before line_whole line_longer : List ℕ) : Type 0 where
+  pub line : line_found books.before ≡ set_of line_before
   pub moved : tables_after (advance books.before) ≡ books.after
   pub later : (appended (advanced (unmoved books.before)) books.whole).tables ≡ books.longer
   pub same : (line_found books.whole ≡ set_of line_whole) × (line_found books.longer ≡ set_of line_longer)
