@@ -13,7 +13,7 @@ use Rattle.varint.proofs.Sequence.{encode_all_append}
 use Rattle.book.specs.Bounds.{mark}
 use Rattle.matrix.specs.Entries.{is_news}
 use Rattle.message.specs.Layout.{one_pair, pairs_to}
-use Rattle.mail.specs.Sizes.{pair_most}
+use Rattle.mail.specs.Sizes.{number_most, pair_most}
 use Rattle.mail.proofs.Turns.{Parts, Stored, stored_none, stored_more, stored_long}
 
 -- the bytes of the pairs of the first k processes, and those of one process
@@ -70,6 +70,10 @@ module _ (news : ℕ → ℕ) (k : ℕ) where
 
   pub no_pair_stored : news k ≡ mark → (out : List ℕ) (next : ℕ) → Stored (pair_of news k) out next out next
   no_pair_stored equal out next = subst (λ (l : List ℕ). Stored l out next out next) (sym (no_pair equal)) (stored_none out next)
+
+-- a number of 64 bits
+pub number_few : (v : ℕ) {n : ℕ} → v < 2 ^ 64 → n ≡ length (encode v) → n ≤ number_most
+number_few v h e = rw e (size_most v h)
 
 -- a process and a counter, of 64 bits each
 pub pair_few : {process counter a b : ℕ} → process < 2 ^ 64 → counter < 2 ^ 64 → a ≡ length (encode process) → b ≡ length (encode counter)

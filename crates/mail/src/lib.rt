@@ -1,3 +1,4 @@
+#![tactic(auto)]
 // Document 01, "Message (own)": the messages that one step sends, as bytes one after another.
 ghost use Rattle.std.specs.Prelude.{◌≡◌, ◌+◌, ◌≤◌, ◌<◌, length};
 ghost use Rattle.std.proofs.lemmas.List.Edits.{sets};
