@@ -1,3 +1,4 @@
+#![tactic(auto)]
 // Reading a list of what to send again (document 02, E5).
 ghost use Rattle.std.specs.Prelude.{◌≡◌, ◌≤◌};
 ghost use Rattle.book.specs.Bounds.{largest, most_processes};
