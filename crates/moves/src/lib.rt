@@ -1,3 +1,4 @@
+#![tactic(auto)]
 // Document 01, "The move (K 5.4)": moving the line of lent tables, in place.
 ghost use Rattle.std.specs.Prelude.{◌≡◌, ◌+◌, ◌-◌, ◌*◌, ◌≤◌, length};
 ghost use Rattle.std.proofs.lemmas.List.Edits.{sets};
