@@ -1,3 +1,4 @@
+#![tactic(auto)]
 // Document 01, "A search": what the initiator's and the participant's machine share, and flags for processes.
 ghost use Rattle.std.specs.Prelude.{◌≡◌, ◌&&◌, not, ◌-◌, ◌≤◌, ◌<◌, eqb};
 ghost use Rattle.book.specs.Accepted.{IsProcess};
