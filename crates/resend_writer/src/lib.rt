@@ -1,3 +1,4 @@
+#![tactic(auto)]
 // Writing the list of what to send again (document 02, E5), as bytes at the start of a lent buffer.
 ghost use Rattle.std.specs.Prelude.{◌≡◌, true, ◌+◌, ◌*◌, ◌≤◌, ◌<◌, length};
 ghost use Rattle.std.proofs.lemmas.List.Edits.{sets};
