@@ -6,8 +6,8 @@ import operator
 import re
 
 PREFIX = "RECOVERY_LINE_"
-# The crates of the exported functions and of the constants' parts, each after those whose constants it uses.
-RATTLE = ["book", "matrix", "message", "machine", "words", "recovery_line"]
+# The crates of the constants' parts, each after those whose constants it uses, and last the crate of the exported functions.
+RATTLE = ["book", "matrix", "message", "machine", "words", "recovery_line", "recovery_line_c"]
 RUST_TYPES = {"uint8_t": "u8", "uint32_t": "u32", "uint64_t": "u64", "size_t": "usize", "recovery_line_counter": "Counter"}
 
 
@@ -77,7 +77,7 @@ def rust_functions(sys, interface):
 
 def rattle_functions(text):
     found = []
-    exported = r'#\[no_mangle\]\s*pub extern "C" fn (\w+)\s*\(([^)]*)\)\s*(?:->\s*(\w+))?'
+    exported = r'#\[unsafe\(no_mangle\)\]\s*pub extern "C" fn (\w+)\s*\(([^)]*)\)\s*(?:->\s*(\w+))?'
     for m in re.finditer(exported, without_line_comments(text)):
         parameters = [one for p in listed(m[2]) for one in lent_parameter(p)]
         found.append((m[1], parameters, m[3]))
