@@ -1,3 +1,4 @@
+#![tactic(auto)]
 // Document 01, "Session": where each strand's message lies in one lent buffer, and putting messages there. Processes and the
 // initiator count from 0 here.
 ghost use Rattle.std.specs.Prelude.{◌≡◌, true, not, ◌||◌, ◌+◌, ◌≤◌, ◌<◌, length, leb};
