@@ -27,7 +27,7 @@ overflow_add-next c =
       | else-q-p w ↦ omega (arith, fits, w.more-is)
     ]
 
--- what is added
+-- what is added is one at the partner's place, and nothing at the others
 pub loop-q-preserved : goal.loop-q-preserved
 loop-q-preserved c =
     let q = c.loop-q.q in
