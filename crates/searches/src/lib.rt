@@ -1,3 +1,4 @@
+#![tactic(auto)]
 // Document 01, "Session": a search from its start to its end, and a list of turns on a book, with strands of their own.
 mod finish;
 

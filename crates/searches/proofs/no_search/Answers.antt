@@ -2,11 +2,7 @@
 use mathlib.Core.Path.{refl, sym}
 use native.Mathlib.Omega.{arith}
 use Rattle.book.proofs.Questions.{answer_refused}
-use Rattle.searches.proofs.no_search.Statement.{statement}
-use Rattle.searches.proofs.no_search.Tie as tie
+use Rattle.searches.proofs.no_search.Goals as goal
 
-returns : tie.Need-returns
+pub returns : goal.returns
 returns c = (sym (answer_refused c.args.question (λ e. omega arith)), (refl, (refl, (refl, refl))))
-
-pub no-search-spec : {M : Type 1} → statement M
-no-search-spec = tie.close (tie.spec returns)
