@@ -1,3 +1,4 @@
+#![tactic(auto)]
 // Document 01, "A search", and K 5.3: the participant's machine, a struct by value whose steps take it and hand it back.
 mod fits;
 mod step;
