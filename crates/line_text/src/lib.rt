@@ -1,3 +1,4 @@
+#![tactic(auto)]
 // The text that the program `line` prints (document 01), as a value that grows, and put into a lent buffer.
 ghost use Rattle.std.specs.Prelude.{◌≡◌, [], ◌∷◌, ◌+◌, ◌≤◌, ◌<◌, length, take};
 ghost use Rattle.std.proofs.lemmas.List.Edits.{sets};

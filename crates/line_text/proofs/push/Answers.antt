@@ -1,0 +1,12 @@
+-- `line_text::push` meets its contract.
+-- Assumes nothing.
+use mathlib.Core.Path.{◌≡◌}
+use lib.ListN.{length}
+use native.Mathlib.Omega.{arith}
+use Rattle.line_text.proofs.Grows.{grown_byte}
+use borrow.Author.Rules.{rules}
+use Rattle.line_text.proofs.push.Goals as goal
+
+pub returns : goal.returns
+returns c = let long : length c.args.text.bytes ≡ 512 = search rules in
+    grown_byte _ _ _ (omega (arith, c.requires))
