@@ -11,6 +11,8 @@ use Rattle.initiator.proofs.Initiator.step.Goals.{Start}
 abbrev own : Start → ℕ → Own
 own c j = let a = c.args in own_of (lent a.rows.shape a.sent.now a.received.now) j
 
+-- reports are still out:
+-- it goes on waiting
 pub returns-then-someone : goal.returns-then-someone
 returns-then-someone c =
     let a = c.args in
