@@ -8,8 +8,7 @@ pub loop-j-init : goal.loop-j-init
 loop-j-init c = (filled_none (omega arith), filled_none (omega arith))
 
 pub overflow_sub-before : goal.overflow_sub-before
-overflow_sub-before c = let at-loop = c.loop-j in
-    (c.requires.1 at-loop.j c.loop-j-test.true).0
+overflow_sub-before c = omega (arith, (c.requires.1 c.loop-j.j c.loop-j-test.true).0)
 
 pub go_after-requires : goal.go_after-requires
 go_after-requires c = let at-loop = c.loop-j in
