@@ -1,3 +1,4 @@
+#![tactic(auto)]
 // Document 01, "Session": beginning a search, and delivering a message. Inner functions, for the calls of a session, which have
 // put the questions. Processes count from 0 here, but for those that are named.
 ghost use Rattle.std.specs.Prelude.{◌≡◌, [], suc, ◌-◌, ◌≤◌, ◌<◌};
