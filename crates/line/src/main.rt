@@ -1,3 +1,4 @@
+#![tactic(auto)]
 // Document 01, "Program `line`": reads a book from standard input and prints its line, or the question that it fails. What is
 // printed is the library's text; this program only reads and writes, and says on standard error where it could not.
 ghost use Rattle.std.specs.Prelude.{◌≡◌, length};

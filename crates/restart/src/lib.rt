@@ -1,3 +1,4 @@
+#![tactic(auto)]
 // Document 01, "The move (K 5.4)": plans of moves and restart orders. Values and definitions; the calls are in the crates above.
 use book::{Checkpoint, Count};
 

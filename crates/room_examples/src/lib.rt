@@ -1,1 +1,2 @@
+#![tactic(auto)]
 // The room that demand 3 asks for is needed, for every number of processes: no code.

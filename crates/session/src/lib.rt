@@ -1,3 +1,4 @@
+#![tactic(auto)]
 // Document 01, "Session": the machines of one search, joined by strands. Values and definitions; the calls are in the crates
 // above.
 use book::{Answer, Process};

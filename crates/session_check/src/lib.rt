@@ -1,3 +1,4 @@
+#![tactic(auto)]
 // Document 01, questions 10, 11 and 13 of a session: are the processes named, are the purposes purposes, does it fit the tables?
 // And what a strand holds.
 mod held;

@@ -1,3 +1,4 @@
+#![tactic(auto)]
 // Document 01, "Session": the calls `start` and `turn`.
 mod deliver;
 
