@@ -1,6 +1,6 @@
 -- Question 13 of a strand: whether what waits is within its slot and the buffer, and whether what it holds fits.
-use mathlib.Core.Path.{◌≡◌, refl, sym, ap, ◌∙◌}
-use mathlib.Core.Bool.{Bool, true, false, not, ◌&&◌, ◌||◌}
+use mathlib.Core.Path.{◌≡◌, refl, sym, ◌∙◌}
+use mathlib.Core.Bool.{Bool, true, false, not, ◌&&◌}
 use Prim.Native.Nat.{ℕ, ◌+◌, ◌≤◌, ◌<◌}
 use borrow.Author.Tests.{eq-eqb, ne_eqb, le-leb, lt-leb, leb-true}
 use lib.Dec.{leb}
@@ -10,7 +10,6 @@ use Rattle.participant.specs.declared.Stage.{Stage}
 use Rattle.strands.specs.Strands.{slot_size, strand_start}
 use Rattle.session.specs.declared.Waiting.{Waiting}
 use Rattle.session.specs.declared.Waiting.TheVariants.{Nothing, Asking, Ending, Report, Stray}
-use Rattle.session.specs.Workers.{is_ended}
 use Rattle.session.specs.Held.{is_report, is_stray}
 use Rattle.session_check.specs.Parts.{length_fits, held_fits}
 
@@ -46,44 +45,7 @@ module _ (n initiator k waits room : ℕ) where
 
 -- ---- what it holds
 
--- whether the initiator has ended, or the participant has not
-module _ (g ended e : Bool) where
-  pub going_ended : ended ≡ true → g ≡ ended → g ≡ (ended || not e)
-  going_ended h f = rw h (f ∙ h)
-
-  pub going_on : {r : Bool} → ended ≡ false → r ≡ e → g ≡ not r → g ≡ (ended || not e)
-  going_on h f k = rw h (k ∙ ap not f)
-
 module _ (awaited ended : Bool) (stage : Stage) (w : Waiting) where
-  abbrev Fit : Bool → Type 0
-  Fit r = r ≡ held_fits awaited ended stage w
-
-  -- the initiator has ended, or the participant has not
-  abbrev pub is_going : Bool
-  is_going = ended || not (is_ended stage)
-
-  still : (t e : Bool) → (t || not e) ≡ (t || (not e && true))
-  still true e = refl
-  still false true = refl
-  still false false = refl
-
-  pub fits_nothing : {r : Bool} → w ≡ Nothing → awaited ≡ false → r ≡ is_going → Fit r
-  fits_nothing {r} e h f = rw (e, h) (f ∙ still ended (is_ended stage))
-
-  pub fits_asking : {r : Bool} → w ≡ Asking → awaited ≡ true → r ≡ is_going → Fit r
-  fits_asking {r} e h f = rw (e, h) (f ∙ still ended (is_ended stage))
-
-  pub fits_report : {r : Bool} → w ≡ Report → awaited ≡ true → r ≡ is_going → Fit r
-  fits_report {r} e h f = rw (e, h) (f ∙ still ended (is_ended stage))
-
-  pub fits_ending : w ≡ Ending → awaited ≡ false → Fit ended
-  fits_ending e h = rw (e, h) (go ended (is_ended stage))
-    where
-      go : (t s : Bool) → t ≡ (t || (not s && false))
-      go true s = refl
-      go false true = refl
-      go false false = refl
-
   -- where it is a report, it is one or stray at the initiator
   abbrev above : Bool → Waiting
   above b = pick (is_report w) (pick b Report Stray) w
