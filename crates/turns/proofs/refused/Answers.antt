@@ -2,11 +2,7 @@
 use mathlib.Core.Path.{refl, sym}
 use native.Mathlib.Omega.{arith}
 use Rattle.book.proofs.Questions.{answer_refused}
-use Rattle.turns.proofs.refused.Statement.{statement}
-use Rattle.turns.proofs.refused.Tie as tie
+use Rattle.turns.proofs.refused.Goals as goal
 
-returns : tie.Need-returns
+pub returns : goal.returns
 returns c = (sym (answer_refused c.args.question (λ z. absurd (omega arith))), refl)
-
-pub refused-spec : {M : Type 1} → statement M
-refused-spec = tie.close (tie.spec returns)
