@@ -5,7 +5,7 @@
  * own. The functions below are for who lays memory out himself: nothing here stops a caller who swaps `sent` and `received`.
  * From the repository's root:
  *
- *     rt staticlib recovery_line
+ *     tools/archive
  *     cc -I include examples/search_and_move.c target/staticlib/librecovery_line.a -o search_and_move
  *     c++ -std=c++17 -I include examples/first_book.cpp target/staticlib/librecovery_line.a -o first_book
  *

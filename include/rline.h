@@ -2,7 +2,7 @@
  * The recovery line of up to sixteen worker processes, with types: the functions of recovery_line.h over structs, for C11 and
  * C++17 or later. It adds nothing to link but what recovery_line.h names; examples/first_book.c is the shortest program:
  *
- *     rt staticlib recovery_line
+ *     tools/archive
  *     cc -std=c11 -I include examples/first_book.c target/staticlib/librecovery_line.a -o first_book
  *     ./first_book
  *

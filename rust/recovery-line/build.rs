@@ -21,7 +21,7 @@ fn link_from(directory: &Path) {
     println!("cargo::rerun-if-changed={}", archive.display());
     if !archive.is_file() {
         println!(
-            "cargo::warning={} is missing, and nothing can be linked without it: run `rt staticlib recovery_line` in the \
+            "cargo::warning={} is missing, and nothing can be linked without it: run `tools/archive` in the \
              root of the repository, or set {DIRECTORY} to the directory that holds {ARCHIVE}",
             archive.display()
         );

@@ -40,7 +40,7 @@ fn ask_version() {
 fn another_version() -> ! {
     panic!(
         "librecovery_line.a has version {} of its interface, and this crate is written for version {}: link the archive \
-         that `rt staticlib recovery_line` makes of the same sources",
+         that `tools/archive` makes of the same sources",
         version(),
         sys::RECOVERY_LINE_VERSION
     )
