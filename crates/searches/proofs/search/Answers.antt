@@ -1,7 +1,6 @@
 -- `search` meets its contract: the questions decide, and the session that ran has ended where a search ends.
 use mathlib.Core.Path.{◌≡◌, ◌∙◌}
 use borrow.Author.Rules.{rules}
-use lib.ListN.{length}
 use Rattle.book.specs.Lent.{lent}
 use Rattle.searches.specs.Search.{search_question}
 use Rattle.searches.proofs.Answers.{tables_refuse, tables_pass, search_refused, searched_leader, set_among, search_accepted}
