@@ -1,0 +1,57 @@
+-- `recovery_line_initiator_receive` meets its contract.
+use mathlib.Core.Path.{◌≡◌}
+use native.Mathlib.Omega.{arith}
+use lib.ListN.{length}
+use Rattle.words.specs.Words.{shape_length, lengths_length}
+use Rattle.words.specs.Initiator.{initiator_length}
+use Rattle.recovery_line.proofs.Shells.{three_long}
+use Rattle.recovery_line.proofs.MachineCalls.{report_wrong, report_done, report_refused}
+use Rattle.recovery_line.proofs.machines.recovery_line_initiator_receive.Goals as goal
+
+pub returns-then-question-ne0 : goal.returns-then-question-ne0
+returns-then-question-ne0 c = let a = c.args in
+    let whole = report_wrong a.state.now a.shape.now a.sent.now a.received.now a.message.now a.out.now a.lengths.now
+    c.three_question-question.ensures c.if-question-ne0.true in
+    record { value = whole.0; state_after = whole.1.0; out_after = whole.1.1.0; lengths_after = whole.1.1.1 }
+
+pub shape_in-given-requires : goal.shape_in-given-requires
+shape_in-given-requires c = let long : let a = c.args in
+    (length a.shape.now ≡ shape_length) × ((length a.state.now ≡ initiator_length) × (length a.lengths.now ≡ lengths_length)) = let a = c.args in
+    three_long shape_length initiator_length lengths_length a.shape.now a.state.now a.lengths.now c.three_question-question.ensures c.if-question-ne0.false in
+    (long).0
+
+pub initiator_in-machine-requires : goal.initiator_in-machine-requires
+initiator_in-machine-requires c = let long : let a = c.args in
+    (length a.shape.now ≡ shape_length) × ((length a.state.now ≡ initiator_length) × (length a.lengths.now ≡ lengths_length)) = let a = c.args in
+    three_long shape_length initiator_length lengths_length a.shape.now a.state.now a.lengths.now c.three_question-question.ensures c.if-question-ne0.false in
+    (long).1.0
+
+pub returns-then-question-ne0-2 : goal.returns-then-question-ne0-2
+returns-then-question-ne0-2 c = let a = c.args in
+    let whole = report_refused a.state.now a.shape.now a.sent.now a.received.now a.message.now a.out.now a.lengths.now
+    c.three_question-question.ensures c.if-question-ne0.false c.shape_in-given.ensures
+    c.initiator_in-machine.ensures c.number_of-question.ensures c.receive-after.ensures.answer_value
+    c.receive-after.ensures.out_after c.if-question-ne0-2.true in
+    record { value = whole.0; state_after = whole.1.0; out_after = whole.1.1.0; lengths_after = whole.1.1.1 }
+
+pub put_initiator-requires : goal.put_initiator-requires
+put_initiator-requires c = let long : let a = c.args in
+    (length a.shape.now ≡ shape_length) × ((length a.state.now ≡ initiator_length) × (length a.lengths.now ≡ lengths_length)) = let a = c.args in
+    three_long shape_length initiator_length lengths_length a.shape.now a.state.now a.lengths.now c.three_question-question.ensures c.if-question-ne0.false in
+    omega (arith, (long).1.0)
+
+pub put_numbers-requires : goal.put_numbers-requires
+put_numbers-requires c = let long : let a = c.args in
+    (length a.shape.now ≡ shape_length) × ((length a.state.now ≡ initiator_length) × (length a.lengths.now ≡ lengths_length)) = let a = c.args in
+    three_long shape_length initiator_length lengths_length a.shape.now a.state.now a.lengths.now c.three_question-question.ensures c.if-question-ne0.false in
+    omega (arith, (long).1.1)
+
+pub returns : goal.returns
+returns c = let a = c.args in
+    let whole = report_done a.state.now a.shape.now a.sent.now a.received.now a.message.now a.out.now a.lengths.now
+    c.three_question-question.ensures c.if-question-ne0.false c.shape_in-given.ensures
+    c.initiator_in-machine.ensures c.number_of-question.ensures c.receive-after.ensures.answer_value
+    c.receive-after.ensures.out_after
+    c.if-question-ne0-2.false c.receive-after.ensures.state_value c.put_initiator.ensures
+    c.receive-after.ensures.lengths_value c.put_numbers.ensures in
+    record { value = whole.0; state_after = whole.1.0; out_after = whole.1.1.0; lengths_after = whole.1.1.1 }
