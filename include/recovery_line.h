@@ -317,7 +317,7 @@ RECOVERY_LINE_NODISCARD uint32_t recovery_line_participant_receive(
  * `out`, one after another, rising by receiver, with the length for each process. RECOVERY_LINE_STRAND_BYTES(n) bytes always
  * suffice.
  * Questions: the tables', 10, 11, 17.
- * Stack: 12288 bytes. */
+ * Stack: 17408 bytes. */
 RECOVERY_LINE_NODISCARD uint32_t recovery_line_initiator_begin(
     const uint64_t *shape, size_t shape_len, const recovery_line_counter *sent, size_t sent_len,
     const recovery_line_counter *received, size_t received_len, uint64_t me, uint64_t purpose,
@@ -336,7 +336,7 @@ RECOVERY_LINE_NODISCARD uint32_t recovery_line_initiator_receive(
  * `strands`: RECOVERY_LINE_MESSAGE_BYTES(n) bytes for each participant, in rising order, none for the initiator; every other
  * byte stays. RECOVERY_LINE_STRAND_BYTES(n) bytes always suffice.
  * Questions: the tables', 10, 11, 17.
- * Stack: 39936 bytes. */
+ * Stack: 40960 bytes. */
 RECOVERY_LINE_NODISCARD uint32_t recovery_line_session_start(
     const uint64_t *shape, size_t shape_len, const recovery_line_counter *sent, size_t sent_len,
     const recovery_line_counter *received, size_t received_len, uint64_t initiator, uint64_t purpose,
@@ -346,7 +346,7 @@ RECOVERY_LINE_NODISCARD uint32_t recovery_line_session_start(
  * as the start or the turn before left them. RECOVERY_LINE_STRAND_BYTES(n) bytes always suffice. What then holds after every
  * list of turns, in whatever order, is proved of these words: docs/PROVED.md, "Demand 3 for callers from C, C++ and Rust".
  * Questions: the tables', 10, 11, 13, 17, 18.
- * Stack: 60416 bytes. */
+ * Stack: 69632 bytes. */
 RECOVERY_LINE_NODISCARD uint32_t recovery_line_session_turn(
     uint64_t *session, size_t session_len, const uint64_t *shape, size_t shape_len,
     const recovery_line_counter *sent, size_t sent_len, const recovery_line_counter *received, size_t received_len,
@@ -356,7 +356,7 @@ RECOVERY_LINE_NODISCARD uint32_t recovery_line_session_turn(
  * newer than it, and the rounds and messages that it took. With purpose 1 or 3 `set` is the line; with purpose 2 checkpoint 1
  * everywhere. It needs the whole book.
  * Questions: the tables', 10, 11.
- * Stack: 51200 bytes. */
+ * Stack: 55296 bytes. */
 RECOVERY_LINE_NODISCARD uint32_t recovery_line_search(
     const uint64_t *shape, size_t shape_len, const recovery_line_counter *sent, size_t sent_len,
     const recovery_line_counter *received, size_t received_len, uint64_t initiator, uint64_t purpose,
@@ -366,14 +366,14 @@ RECOVERY_LINE_NODISCARD uint32_t recovery_line_search(
  * and b, what b's line checkpoint (with purpose 2 checkpoint 1, so nothing) had received from a is taken off both a's counters
  * of what it sent to b and b's counters of what it received from a.
  * Questions: the tables', 11.
- * Stack: 26624 bytes. */
+ * Stack: 29696 bytes. */
 RECOVERY_LINE_NODISCARD uint32_t recovery_line_move(
     uint64_t *shape, size_t shape_len, recovery_line_counter *sent, size_t sent_len,
     recovery_line_counter *received, size_t received_len, uint64_t purpose, uint64_t *order, size_t order_len);
 
 /* Gives the restart order that `recovery_line_move` would give, and moves nothing.
  * Questions: the tables', 11.
- * Stack: 28672 bytes. */
+ * Stack: 30720 bytes. */
 RECOVERY_LINE_NODISCARD uint32_t recovery_line_restart_order(
     const uint64_t *shape, size_t shape_len, const recovery_line_counter *sent, size_t sent_len,
     const recovery_line_counter *received, size_t received_len, uint64_t purpose, uint64_t *order, size_t order_len);
@@ -381,7 +381,7 @@ RECOVERY_LINE_NODISCARD uint32_t recovery_line_restart_order(
 /* Writes the list of the restart order for a purpose to the start of `out`, and its length; the bytes after it stay.
  * RECOVERY_LINE_MOST_RESEND_BYTES bytes always suffice.
  * Questions: the tables', 11, 17.
- * Stack: 28672 bytes. */
+ * Stack: 30720 bytes. */
 RECOVERY_LINE_NODISCARD uint32_t recovery_line_write_resend(
     const uint64_t *shape, size_t shape_len, const recovery_line_counter *sent, size_t sent_len,
     const recovery_line_counter *received, size_t received_len, uint64_t purpose, uint8_t *out, size_t out_len,
