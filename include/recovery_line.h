@@ -168,7 +168,7 @@ extern "C" {
 #define RECOVERY_LINE_MOST_RESEND_BYTES \
     (2 + RECOVERY_LINE_PROCESSES * (RECOVERY_LINE_PROCESSES - 1) * (2 + 2 * RECOVERY_LINE_GROUPS))
 
-/* The stack that suffices for every call: a quarter more than the most that was measured, rounded up. */
+/* The stack that suffices for every call: a tenth more than the most that was measured, rounded up. */
 #define RECOVERY_LINE_STACK_BYTES 77824
 
 /* An entry of a table: a counter. */
