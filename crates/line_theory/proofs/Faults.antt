@@ -38,7 +38,7 @@ module _ (v : View) (c : ℕ → ℕ) where
 pub pair_is_first : PairIsFirst
 pair_is_first v c j p = (
   λ e.
-      let at = pair_found v.n (at_fault v c) e in
+      let at = pair_found v.n _ e in
       record { first = at.first; second = at.second; fault = at.here; lower_j = at.lower_first; lower_p = at.lower_second },
   λ at.
       pair_some v.n (at_fault v c) j p
