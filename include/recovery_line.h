@@ -168,7 +168,7 @@ extern "C" {
 #define RECOVERY_LINE_MOST_RESEND_BYTES \
     (2 + RECOVERY_LINE_PROCESSES * (RECOVERY_LINE_PROCESSES - 1) * (2 + 2 * RECOVERY_LINE_GROUPS))
 
-/* The stack that suffices for every call: a tenth more than the most that was measured, rounded up. */
+/* The stack that suffices for every call: a twelfth more than the most that was measured, rounded up. */
 #define RECOVERY_LINE_STACK_BYTES 77824
 
 /* An entry of a table: a counter. */
@@ -346,7 +346,7 @@ RECOVERY_LINE_NODISCARD uint32_t recovery_line_session_start(
  * as the start or the turn before left them. RECOVERY_LINE_STRAND_BYTES(n) bytes always suffice. What then holds after every
  * list of turns, in whatever order, is proved of these words: docs/PROVED.md, "Demand 3 for callers from C, C++ and Rust".
  * Questions: the tables', 10, 11, 13, 17, 18.
- * Stack: 69632 bytes. */
+ * Stack: 72704 bytes. */
 RECOVERY_LINE_NODISCARD uint32_t recovery_line_session_turn(
     uint64_t *session, size_t session_len, const uint64_t *shape, size_t shape_len,
     const recovery_line_counter *sent, size_t sent_len, const recovery_line_counter *received, size_t received_len,
@@ -389,7 +389,7 @@ RECOVERY_LINE_NODISCARD uint32_t recovery_line_write_resend(
 
 /* Reads a list of what to send again among n processes into `resend`, every word of it.
  * Questions: 4 of n, 3 of the count, then entry by entry 3 of all four numbers, 10, 21, and 21 of the end.
- * Stack: 5120 bytes. */
+ * Stack: 7168 bytes. */
 RECOVERY_LINE_NODISCARD uint32_t recovery_line_read_resend(
     uint64_t n, const uint8_t *bytes, size_t bytes_len, uint64_t *resend, size_t resend_len);
 

@@ -6,6 +6,7 @@ pub mod Counts
 pub mod Fits
 pub mod Names
 pub mod Questions
+pub mod Refusals
 pub mod Rows
 pub mod Starts
 pub mod Stores

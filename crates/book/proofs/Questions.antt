@@ -3,8 +3,8 @@ use mathlib.Core.Path.{◌≡◌, refl, ◌∙◌}
 use mathlib.Core.Bool.{Bool, true, false}
 use Prim.Native.Nat.{ℕ, zero, suc}
 use native.Mathlib.Omega.{arith}
-use Rattle.book.specs.declared.Answer.TheVariants.{Accepted, Refused}
-use Rattle.book.specs.InTurn.{◌then◌, ask, answer_to, unless_refused}
+use Rattle.std.specs.Prelude.{Ok, Err}
+use Rattle.book.specs.InTurn.{◌then◌, ask, answer_with, unless_refused}
 
 -- a question that does not fail leaves the answer to the later ones
 pub then_passed : (q : ℕ) (later : Unit {0} → ℕ) → q ≡ 0 → (q then later) ≡ later tt
@@ -38,12 +38,14 @@ pub asked_yes : (k : ℕ) (b : Bool) → ask (suc k) b ≡ 0 → b ≡ true
 asked_yes k true h = refl
 asked_yes k false h = absurd (omega arith)
 
-pub answer_passed : (q : ℕ) → q ≡ 0 → answer_to q ≡ Accepted
-answer_passed q h = rw h
+pub answer_passed : {A : Type 0} (q : ℕ) (v : A) → q ≡ 0 → answer_with q v ≡ Ok v
+unfolding answer_with
+answer_passed q v h = rw h
 
-pub answer_refused : (q : ℕ) → (q ≡ 0 → ⊥) → answer_to q ≡ Refused q
-answer_refused zero h = absurd (h refl)
-answer_refused (suc q) h = refl
+pub answer_refused : {A : Type 0} (q : ℕ) (v : A) → (q ≡ 0 → ⊥) → answer_with q v ≡ Err q
+unfolding answer_with
+answer_refused zero v h = absurd (h refl)
+answer_refused (suc q) v h = refl
 
 pub kept_passed : {A : Type 0} (q : ℕ) (before now : A) → q ≡ 0 → unless_refused q before now ≡ now
 kept_passed q before now h = rw h

@@ -6,6 +6,7 @@ pub mod Lent
 pub mod View
 pub mod Starts
 pub mod InTurn
+pub mod Numbers
 pub mod Questions
 pub mod Along
 pub mod Check

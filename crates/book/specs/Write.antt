@@ -1,13 +1,11 @@
 -- Writing a book: accepted tables to bytes at the start of a lent buffer.
-use Rattle.std.specs.Prelude.{List, ℕ, zero, suc, length, leb}
+use Rattle.std.specs.Prelude.{List, ℕ, Result, length, leb}
 use Rattle.std.proofs.lemmas.List.Edits.{sets}
 use Rattle.book.specs.Lent.{Tables}
 use Rattle.varint.specs.Sequence.{encode_all}
-use Rattle.book.specs.declared.WriteAnswer.{WriteAnswer}
-use Rattle.book.specs.declared.WriteAnswer.TheVariants.{Length, Refused}
 use Rattle.book.specs.Layout.{Book, book_numbers}
 use Rattle.book.specs.Tables.{book_of}
-use Rattle.book.specs.InTurn.{◌then◌, ask, unless_refused}
+use Rattle.book.specs.InTurn.{◌then◌, ask, answer_with, unless_refused}
 use Rattle.book.specs.Check.{tables_question}
 
 -- a book's bytes
@@ -23,12 +21,8 @@ unfoldable pub write_question : Tables → List ℕ → ℕ
 write_question tables out = tables_question tables then λ _. ask 17 (leb (length (bytes_of tables)) (length out))
 
 -- the length written, or the question that refuses
-abbrev pub length_or : ℕ → ℕ → WriteAnswer
-length_or zero long = Length long
-length_or (suc question) long = Refused (suc question)
-
-unfoldable pub answer_to_write : Tables → List ℕ → WriteAnswer
-answer_to_write tables out = length_or (write_question tables out) (length (bytes_of tables))
+unfoldable pub answer_to_write : Tables → List ℕ → Result ℕ ℕ
+answer_to_write tables out = answer_with (write_question tables out) (length (bytes_of tables))
 
 -- the buffer afterwards: the bytes at its start, those after them untouched
 unfoldable pub bytes_written : Tables → List ℕ → List ℕ

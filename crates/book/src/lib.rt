@@ -7,6 +7,8 @@ ghost use Rattle.book.specs.Names.{is_named, is_purpose};
 ghost use Rattle.book.specs.Tables.{partner_column};
 ghost use Rattle.book.specs.View.{sum, first_rows, counter_from};
 ghost use Rattle.book.specs.Before.{entry_before};
+ghost use Rattle.book.specs.InTurn.{answer_to};
+ghost use Rattle.book.specs.Numbers.{number, by_number};
 ghost use Rattle.book.specs.Questions.{zero_if_asked, counter_question};
 ghost use Rattle.book.specs.Along.{sent_zeros, received_zeros};
 
@@ -28,18 +30,18 @@ pub const ROW_WIDTH: usize = 16;
 pub const ENTRIES: usize = 4096;
 
 // A process number, from 1 to n (K's j).
-#[derive(Clone, Copy)]
+#[derive(Clone, Copy, PartialEq, Eq)]
 pub struct Process(pub usize);
 
 // A checkpoint number within its process, from 1, the oldest (K's r).
-#[derive(Clone, Copy)]
+#[derive(Clone, Copy, PartialEq, Eq)]
 pub struct Checkpoint(pub usize);
 
 // An entry of a table.
 pub type Counter = u32;
 
 // A count of messages sent or received (K's counters).
-#[derive(Clone, Copy)]
+#[derive(Clone, Copy, PartialEq, Eq)]
 pub struct Count(pub Counter);
 
 // n, and how many checkpoints each of sixteen processes has; 0 for absent ones.
@@ -56,19 +58,83 @@ pub struct TableRows {
     pub first: [usize; 16],
 }
 
-// The answer of a call whose result stands beside it or in lent tables: the number is that of the first question of
-// document 01 that fails.
-#[derive(Clone, Copy)]
-pub enum Answer {
-    Accepted,
-    Refused(u32),
+// The questions of documents 01 and 02, each under the number that it has there: what a call that refuses answers is the first
+// one that fails.
+#[derive(Clone, Copy, Debug, PartialEq, Eq)]
+pub enum Question {
+    // Are there at most 65,536 book bytes?
+    BookBytes,
+    // Has each table 4,096 entries?
+    TableEntries,
+    // Is the number whole, shortest, at most 5 bytes and 4,294,967,295?
+    Number,
+    // Is n from 1 to 16?
+    Processes,
+    // Is the count at least 1 and the sum so far at most 256?
+    Checkpoints,
+    // Is the counter other than the mark?
+    Mark,
+    // Of a received counter: is it zero, in an oldest checkpoint?
+    OldestZero,
+    // Is it no lower than the same counter one checkpoint before?
+    NoLower,
+    // Does nothing follow, and in tables, is everything unused zero?
+    Unused,
+    // Is each process named from 1 to n (a participant: other than the initiator)?
+    Named,
+    // Is the purpose 1, 2 or 3?
+    Purpose,
+    // Does each named checkpoint exist?
+    Exists,
+    // Does the state fit the tables?
+    StateFits,
+    // Is the message formed?
+    MessageFormed,
+    // Is it awaited here?
+    Awaited,
+    // Is each counter lower than the entry now held?
+    Lower,
+    // Do the bytes to be written fit the buffer?
+    Room,
+    // Is a message waiting on that strand?
+    Waiting,
+    // Is the event formed?
+    EventFormed,
+    // Of a receipt: is a message underway from the partner to the process?
+    Underway,
+    // Is the list of what to send again formed?
+    ListFormed,
 }
 
-// The answer to a write: how many bytes the book takes, or the question that refuses.
-#[derive(Clone, Copy)]
-pub enum WriteAnswer {
-    Length(usize),
-    Refused(u32),
+impl Question {
+    // Its number in the documents, by which callers from other languages know it.
+    pub fn number(self) -> u32
+        ensures { result ≡ number self }
+    {
+        match self {
+            Question::BookBytes => 1,
+            Question::TableEntries => 2,
+            Question::Number => 3,
+            Question::Processes => 4,
+            Question::Checkpoints => 5,
+            Question::Mark => 6,
+            Question::OldestZero => 7,
+            Question::NoLower => 8,
+            Question::Unused => 9,
+            Question::Named => 10,
+            Question::Purpose => 11,
+            Question::Exists => 12,
+            Question::StateFits => 13,
+            Question::MessageFormed => 14,
+            Question::Awaited => 15,
+            Question::Lower => 16,
+            Question::Room => 17,
+            Question::Waiting => 18,
+            Question::EventFormed => 19,
+            Question::Underway => 20,
+            Question::ListFormed => 21,
+        }
+    }
 }
 
 // An entry as a number of the book.
@@ -114,21 +180,21 @@ fn zero_if_asked(zeros: bool, v: u64) -> bool
     if zeros { v == 0 } else { true }
 }
 
-// Questions 6 to 8 of one counter: the first that fails, 0 for none.
-pub fn counter_question(mark: u64, zeros: bool, before: u64, v: u64) -> u32
-    ensures { result ≡ counter_question mark zeros before v }
+// Questions 6 to 8 of one counter.
+pub fn counter_question(mark: u64, zeros: bool, before: u64, v: u64) -> Result<(), Question>
+    ensures { by_number result ≡ answer_to (counter_question mark zeros before v) }
 {
     if mark <= v {
-        return 6;
+        return Err(Question::Mark);
     }
     let is_zero = zero_if_asked(zeros, v);
     if !is_zero {
-        return 7;
+        return Err(Question::OldestZero);
     }
     if v < before {
-        return 8;
+        return Err(Question::NoLower);
     }
-    0
+    Ok(())
 }
 
 // The same counter one checkpoint before; before the oldest there is nothing to be lower than.
@@ -160,11 +226,9 @@ pub fn rows_of(shape: Shape) -> TableRows
     let counts = shape.counts;
     let mut first = [0usize; 16];
     let mut row = 0;
-    let mut j = 0;
-    while j < MOST_PROCESSES {
+    for j in 0..MOST_PROCESSES {
         first[j] = row;
         row += counts[j];
-        j += 1;
     }
     TableRows { shape, first }
 }
@@ -186,9 +250,7 @@ pub fn clear(table: &mut [Counter], from: usize, to: usize)
     requires { (from ≤ to) × (to ≤ length table.old) }
     ensures { table.new ≡ sets table.old from (replicate (to - from) 0) }
 {
-    let mut i = from;
-    while i < to {
+    for i in from..to {
         table[i] = 0;
-        i += 1;
     }
 }

@@ -1,127 +1,86 @@
 -- What an answer tells of the question, the pair or the partner that it stands for.
-use mathlib.Core.Path.{◌≡◌, refl, sym, ap, ◌∙◌}
-use mathlib.Core.Bool.{Bool, true, false, true≢false}
-use mathlib.Core.Option.{Option, none, some}
+use mathlib.Core.Path.{◌≡◌, refl, sym, ap}
+use mathlib.Core.Bool.{true≢false}
+use mathlib.Core.Option as found
 use Prim.Native.Nat.{ℕ, zero, suc}
 use native.Mathlib.Omega.{arith}
+use Rattle.std.specs.Prelude.{Option, Some, None, Result, Ok, Err, is_some, is_ok}
 use Rattle.book.specs.declared.Process.{Process}
-use Rattle.consistency.specs.declared.Permission.{Permission}
-use Rattle.consistency.specs.declared.Permission.TheVariants.{Permitted, Offends}
-use Rattle.consistency.specs.declared.CheckpointAnswer.{CheckpointAnswer}
-use Rattle.consistency.specs.declared.CheckpointAnswer.TheVariants as answer
-use Rattle.consistency.specs.declared.SetAnswer.{SetAnswer}
-use Rattle.consistency.specs.declared.SetAnswer.TheVariants.{Consistent, AtFault, Refused}
-use Rattle.consistency.specs.Set.{shown_or}
-use Rattle.consistency.specs.Known.{named_or}
-use Rattle.consistency.specs.Given.{permission_of, is_permitted}
+use Rattle.book.specs.InTurn.{answer_with}
+use Rattle.book.proofs.Refusals.{refusing}
+use Rattle.consistency.specs.Set.{shown_as}
+use Rattle.consistency.specs.Known.{named_as}
+
+-- ---- any call
+
+abbrev value_or : {A : Type 0} → A → Result A ℕ → A
+value_or d (Ok v) = v
+value_or d (Err k) = d
+
+pub tells_value : {A : Type 0} (q : ℕ) (v w : A) → answer_with q v ≡ Ok w → (q ≡ 0) × (v ≡ w)
+unfolding answer_with
+tells_value zero v w e = (refl, ap (value_or v) e)
+tells_value (suc q) v w e = absurd (true≢false (sym (ap is_ok e)))
+
+pub tells_refused : {A : Type 0} (q : ℕ) (v : A) (r : ℕ) → answer_with q v ≡ Err r → (q ≡ r) × (r ≡ 0 → ⊥)
+unfolding answer_with
+tells_refused zero v r e = absurd (true≢false (ap is_ok e))
+tells_refused (suc q) v r e = let z : suc q ≡ r = ap refusing e in (z, λ none. absurd (omega arith))
 
 -- ---- one checkpoint
 
 -- 0 for nobody
-abbrev partner_in : Permission → Process
-partner_in Permitted = record { 0 = 0 }
-partner_in (Offends p) = p
+abbrev partner_in : Option Process → Process
+partner_in None = record { 0 = 0 }
+partner_in (Some p) = p
 
 -- the partner that was found
-pub partner_named : (o : Option ℕ) (p : Process) → Offends p ≡ permission_of o → (q : ℕ) × (o ≡ some q) × (p ≡ record { 0 = suc q })
-partner_named none p e = absurd (true≢false (sym (ap is_permitted e)))
-partner_named (some q) p e = (q, refl, ap partner_in e)
+pub partner_named : (o : found.Option ℕ) (p : Process) → Some p ≡ named_as o
+    → (q : ℕ) × (o ≡ found.some q) × (p ≡ record { 0 = suc q })
+partner_named found.none p e = absurd (true≢false (ap is_some e))
+partner_named (found.some q) p e = (q, refl, ap partner_in e)
 
-pub nobody_named : (o : Option ℕ) → Permitted ≡ permission_of o → o ≡ none
-nobody_named none e = refl
-nobody_named (some q) e = absurd (true≢false (ap is_permitted e))
+pub nobody_named : (o : found.Option ℕ) → None ≡ named_as o → o ≡ found.none
+nobody_named found.none e = refl
+nobody_named (found.some q) e = absurd (true≢false (sym (ap is_some e)))
 
--- the call answers the same
-pub column_permitted : (o : Option ℕ) → Permitted ≡ permission_of o → answer.Permitted ≡ named_or 0 o
-column_permitted o e = sym (ap (named_or 0) (nobody_named o e))
+pub tells_permitted : (q : ℕ) (o : found.Option ℕ) → answer_with q (named_as o) ≡ Ok None → (q ≡ 0) × (o ≡ found.none)
+tells_permitted q o e =
+    let (passed, named) = tells_value q (named_as o) None e in
+    (passed, nobody_named o (sym named))
 
-pub column_offends : (o : Option ℕ) (p : Process) → Offends p ≡ permission_of o → answer.Offends p ≡ named_or 0 o
-column_offends o p e =
-    let (q, found, named) = partner_named o p e in
-    ap answer.Offends named ∙ sym (ap (named_or 0) found)
-
-pub column_refused : (q : ℕ) (o : Option ℕ) → (q ≡ 0 → ⊥) → answer.Refused q ≡ named_or q o
-column_refused zero o some_q = absurd (some_q refl)
-column_refused (suc q) o some_q = refl
-
--- the parts of its answer
-abbrev permits : CheckpointAnswer → Bool
-permits answer.Permitted = true
-permits (answer.Offends p) = false
-permits (answer.Refused question) = false
-
-abbrev named : CheckpointAnswer → ℕ
-named answer.Permitted = 0
-named (answer.Offends p) = p.0
-named (answer.Refused question) = 0
-
-abbrev refusal : CheckpointAnswer → ℕ
-refusal answer.Permitted = 0
-refusal (answer.Offends p) = 0
-refusal (answer.Refused question) = question
-
-pub tells_permitted : (q : ℕ) (o : Option ℕ) → named_or q o ≡ answer.Permitted → (q ≡ 0) × (o ≡ none)
-tells_permitted zero none e = (refl, refl)
-tells_permitted zero (some i) e = absurd (true≢false (sym (ap permits e)))
-tells_permitted (suc q) o e = absurd (true≢false (sym (ap permits e)))
-
-pub tells_offends : (q : ℕ) (o : Option ℕ) (p : Process) → named_or q o ≡ answer.Offends p
-    → (q ≡ 0) × ((i : ℕ) × (o ≡ some i) × (p.0 ≡ suc i))
-tells_offends zero none p e = absurd (true≢false (ap permits e))
-tells_offends zero (some i) p e = (refl, (i, refl, sym (ap named e)))
-tells_offends (suc q) o p e = let z : suc q ≡ 0 = ap refusal e in absurd (omega arith)
-
-pub tells_refused : (q : ℕ) (o : Option ℕ) (r : ℕ) → named_or q o ≡ answer.Refused r → (q ≡ r) × (r ≡ 0 → ⊥)
-tells_refused zero none r e = absurd (true≢false (ap permits e))
-tells_refused zero (some i) r e = let z : suc i ≡ 0 = ap named e in absurd (omega arith)
-tells_refused (suc q) o r e = let z : suc q ≡ r = ap refusal e in (z, λ none. absurd (omega arith))
+pub tells_offends : (q : ℕ) (o : found.Option ℕ) (p : Process) → answer_with q (named_as o) ≡ Ok (Some p)
+    → (q ≡ 0) × ((i : ℕ) × (o ≡ found.some i) × (p.0 ≡ suc i))
+tells_offends q o p e =
+    let (passed, named) = tells_value q (named_as o) (Some p) e in
+    let (i, at, is) = partner_named o p (sym named) in
+    (passed, (i, at, ap (λ (x : Process). x.0) is))
 
 -- ---- a set
 
-pub set_refused : (q : ℕ) (o : Option (ℕ × ℕ)) → (q ≡ 0 → ⊥) → Refused q ≡ shown_or q o
-set_refused zero o some_q = absurd (some_q refl)
-set_refused (suc q) o some_q = refl
+abbrev first : Option (Process × Process) → ℕ
+first None = 0
+first (Some pair) = pair.0.0
 
-abbrev consistent : SetAnswer → Bool
-consistent Consistent = true
-consistent (AtFault j p) = false
-consistent (Refused question) = false
-
-abbrev first : SetAnswer → ℕ
-first Consistent = 0
-first (AtFault j p) = j.0
-first (Refused question) = 0
-
-abbrev second : SetAnswer → ℕ
-second Consistent = 0
-second (AtFault j p) = p.0
-second (Refused question) = 0
-
-abbrev question_in : SetAnswer → ℕ
-question_in Consistent = 0
-question_in (AtFault j p) = 0
-question_in (Refused question) = question
+abbrev second : Option (Process × Process) → ℕ
+second None = 0
+second (Some pair) = pair.1.0
 
 -- the pair that was found, numbered from 0
-pub record IsShown (q : ℕ) (o : Option (ℕ × ℕ)) (j p : Process) : Type 0 where
+pub record IsShown (q : ℕ) (o : found.Option (ℕ × ℕ)) (j p : Process) : Type 0 where
   pub passed : q ≡ 0
   pub pair : ℕ × ℕ
-  pub found : o ≡ some pair
+  pub found : o ≡ found.some pair
   pub first_is : j.0 ≡ suc pair.0
   pub second_is : p.0 ≡ suc pair.1
 
-pub tells_consistent : (q : ℕ) (o : Option (ℕ × ℕ)) → shown_or q o ≡ Consistent → (q ≡ 0) × (o ≡ none)
-tells_consistent zero none e = (refl, refl)
-tells_consistent zero (some pair) e = absurd (true≢false (sym (ap consistent e)))
-tells_consistent (suc q) o e = absurd (true≢false (sym (ap consistent e)))
+pub tells_consistent : (q : ℕ) (o : found.Option (ℕ × ℕ)) → answer_with q (shown_as o) ≡ Ok None → (q ≡ 0) × (o ≡ found.none)
+tells_consistent q found.none e = ((tells_value q (shown_as found.none) None e).0, refl)
+tells_consistent q (found.some pair) e =
+    absurd (true≢false (ap is_some (tells_value q (shown_as (found.some pair)) None e).1))
 
-pub tells_fault : (q : ℕ) (o : Option (ℕ × ℕ)) (j p : Process) → shown_or q o ≡ AtFault j p → IsShown q o j p
-tells_fault zero none j p e = absurd (true≢false (ap consistent e))
-tells_fault zero (some pair) j p e =
-    record { passed = refl; pair = pair; found = refl; first_is = sym (ap first e); second_is = sym (ap second e) }
-tells_fault (suc q) o j p e = let z : suc q ≡ 0 = ap question_in e in absurd (omega arith)
-
-pub tells_question : (q : ℕ) (o : Option (ℕ × ℕ)) (r : ℕ) → shown_or q o ≡ Refused r → (q ≡ r) × (r ≡ 0 → ⊥)
-tells_question zero none r e = absurd (true≢false (ap consistent e))
-tells_question zero (some pair) r e = let z : suc pair.0 ≡ 0 = ap first e in absurd (omega arith)
-tells_question (suc q) o r e = let z : suc q ≡ r = ap question_in e in (z, λ none. absurd (omega arith))
+pub tells_fault : (q : ℕ) (o : found.Option (ℕ × ℕ)) (j p : Process) → answer_with q (shown_as o) ≡ Ok (Some (j, p)) → IsShown q o j p
+tells_fault q found.none j p e = absurd (true≢false (sym (ap is_some (tells_value q (shown_as found.none) (Some (j, p)) e).1)))
+tells_fault q (found.some pair) j p e =
+    let (passed, shown) = tells_value q (shown_as (found.some pair)) (Some (j, p)) e in
+    record { passed = passed; pair = pair; found = refl; first_is = sym (ap first shown); second_is = sym (ap second shown) }

@@ -1,10 +1,12 @@
 -- The statements of `specs/Statements.antt` hold.
 -- Assumes nothing.
-use mathlib.Core.Path.{◌≡◌, sym, ap, ap₂, ◌∙◌}
+use mathlib.Core.Path.{◌≡◌, ap, ap₂, ◌∙◌}
 use Prim.Native.Nat.{ℕ, suc, ◌-◌, ◌≤◌}
 use native.Mathlib.Omega.{arith}
+use Rattle.std.specs.Prelude.{Some, Ok}
 use Rattle.book.specs.Bounds.{mark}
 use Rattle.book.specs.View.{R}
+use Rattle.book.proofs.Questions.{answer_passed, answer_refused}
 use Rattle.line_theory.specs.Sets.{first_fault}
 use Rattle.line_theory.specs.OfTables.{view_of}
 use Rattle.line_theory.proofs.Tests.{permitted_in, permitted_out}
@@ -17,10 +19,8 @@ use Rattle.line_theory.proofs.Theorems.{
   partner_is_other,
   partner_is_known,
 }
-use Rattle.consistency.specs.declared.SetAnswer.TheVariants.{AtFault}
-use Rattle.consistency.specs.declared.CheckpointAnswer.TheVariants.{Offends}
-use Rattle.consistency.specs.Set.{chosen, test_question, shown_or, answer_to_test}
-use Rattle.consistency.specs.Known.{counters, column_question, offending, named_or, answer_to_column}
+use Rattle.consistency.specs.Set.{chosen, test_question, shown_as, answer_to_test}
+use Rattle.consistency.specs.Known.{counters, column_question, offending, named_as, answer_to_column}
 use Rattle.consistency.specs.Statements.{
   ConsistentExactly,
   ShownExactly,
@@ -31,11 +31,8 @@ use Rattle.consistency.specs.Statements.{
   NamedIsOther,
 }
 use Rattle.consistency.proofs.Answers.{
-  set_refused,
   tells_consistent,
   tells_fault,
-  tells_question,
-  column_refused,
   tells_permitted,
   tells_offends,
   tells_refused,
@@ -60,7 +57,9 @@ consistent_exactly t set = (
   λ e.
       let (passed, None-found) = tells_consistent (test_question t set) (first_fault (view_of t) (chosen set)) e in
       (passed, (no_pair_is_consistent (view_of t) (chosen set)).0 None-found),
-  λ h. ap₂ shown_or h.0 ((no_pair_is_consistent (view_of t) (chosen set)).1 h.1),
+  λ h.
+      answer_passed (test_question t set) (shown_as (first_fault (view_of t) (chosen set))) h.0
+      ∙ ap (λ o. Ok (shown_as o)) ((no_pair_is_consistent (view_of t) (chosen set)).1 h.1),
 )
 
 pub shown_exactly : ShownExactly
@@ -74,17 +73,16 @@ shown_exactly t set j p = (
         rw (before told.first_is, before told.second_is) ((pair_is_first (view_of t) (chosen set) told.pair.0 told.pair.1).0 told.found),
       ),
   λ h.
-      ap₂ shown_or h.0 ((pair_is_first (view_of t) (chosen set) (j.0 - 1) (p.0 - 1)).1 h.3)
-      ∙ ap₂ (λ (x y : ℕ). AtFault (record { 0 = x }) (record { 0 = y })) (back j.0 h.1) (back p.0 h.2),
+      answer_passed (test_question t set) (shown_as (first_fault (view_of t) (chosen set))) h.0
+      ∙ ap (λ o. Ok (shown_as o)) ((pair_is_first (view_of t) (chosen set) (j.0 - 1) (p.0 - 1)).1 h.3)
+      ∙ ap₂ (λ (x y : ℕ). Ok (Some (record { 0 = x }, record { 0 = y }))) (back j.0 h.1) (back p.0 h.2),
 )
 
 pub refused_exactly : RefusedExactly
 unfolding answer_to_test
 refused_exactly t set question = (
-  λ e. tells_question (test_question t set) (first_fault (view_of t) (chosen set)) question e,
-  λ h.
-      let shown = first_fault (view_of t) (chosen set) in
-      ap (λ (q : ℕ). shown_or q shown) h.0 ∙ sym (set_refused question shown h.1),
+  λ e. tells_refused (test_question t set) (shown_as (first_fault (view_of t) (chosen set))) question e,
+  λ h. rw h.0 (answer_refused question (shown_as (first_fault (view_of t) (chosen set))) h.1),
 )
 
 -- ---- one checkpoint
@@ -97,7 +95,8 @@ permitted_exactly t j r known =
           let (passed, None-found) = tells_permitted (column_question t j r) (offending t j r (counters known)) e in
           (passed, permitted_in t.shape.n row (counters known) ((none_offends_is_permitted t.shape.n row (counters known)).0 None-found)),
       λ h.
-          ap₂ named_or h.0
+          answer_passed (column_question t j r) (named_as (offending t j r (counters known))) h.0
+          ∙ ap (λ o. Ok (named_as o))
           ((none_offends_is_permitted t.shape.n row (counters known)).1 (permitted_out t.shape.n row (counters known) h.1)),
     )
 
@@ -109,17 +108,16 @@ named_exactly t j r known p =
           let (passed, (i, found, named)) = tells_offends (column_question t j r) (offending t j r (counters known)) p e in
           (passed, from_1 named, rw (before named) ((partner_is_lowest t.shape.n row (counters known) i).0 found)),
       λ h.
-          ap₂ named_or h.0 ((partner_is_lowest t.shape.n row (counters known) (p.0 - 1)).1 h.2)
-          ∙ ap (λ (x : ℕ). Offends (record { 0 = x })) (back p.0 h.1),
+          answer_passed (column_question t j r) (named_as (offending t j r (counters known))) h.0
+          ∙ ap (λ o. Ok (named_as o)) ((partner_is_lowest t.shape.n row (counters known) (p.0 - 1)).1 h.2)
+          ∙ ap (λ (x : ℕ). Ok (Some (record { 0 = x }))) (back p.0 h.1),
     )
 
 pub column_refused_exactly : ColumnRefusedExactly
 unfolding answer_to_column
 column_refused_exactly t j r known question = (
-  λ e. tells_refused (column_question t j r) (offending t j r (counters known)) question e,
-  λ h.
-      let found = offending t j r (counters known) in
-      ap (λ (q : ℕ). named_or q found) h.0 ∙ sym (column_refused question found h.1),
+  λ e. tells_refused (column_question t j r) (named_as (offending t j r (counters known))) question e,
+  λ h. rw h.0 (answer_refused question (named_as (offending t j r (counters known))) h.1),
 )
 
 pub named_is_other : NamedIsOther

@@ -1,9 +1,9 @@
 -- What the functions below the calls are given beside `AcceptedRows`, and what they promise one another: the one for other
 -- crates (`newest_near`), and the private ones.
-use Rattle.std.specs.Prelude.{◌≡◌, Bool, true, false, List, ℕ, suc, ◌-◌, ◌≤◌, ◌<◌, length}
-use Rattle.std.proofs.Math.Option.{Option, none, some}
+use Rattle.std.specs.Prelude.{◌≡◌, List, ℕ, suc, ◌-◌, ◌≤◌, ◌<◌, Option, length}
 use Rattle.book.specs.declared.Shape.{Shape}
 use Rattle.book.specs.declared.TableRows.{TableRows}
+use Rattle.book.specs.declared.Process.{Process}
 use Rattle.book.specs.declared.Checkpoint.{Checkpoint}
 use Rattle.book.specs.declared.Count.{Count}
 use Rattle.book.specs.Bounds.{most_processes, entries}
@@ -11,10 +11,8 @@ use Rattle.book.specs.View.{count, S, R}
 use Rattle.book.specs.Fits.{Placed}
 use Rattle.line_theory.specs.Sets.{View}
 use Rattle.line_theory.specs.Search.{lowest_offending, sent_to}
-use Rattle.consistency.specs.declared.Permission.{Permission}
-use Rattle.consistency.specs.declared.Permission.TheVariants.{Permitted, Offends}
 use Rattle.consistency.specs.Set.{chosen}
-use Rattle.consistency.specs.Known.{counters}
+use Rattle.consistency.specs.Known.{counters, named_as}
 
 -- the rows of a book lie in a whole table: of accepted tables, what one who is lent only one of them can ask
 pub record Whole (rows : TableRows) (table : List ℕ) : Type 0 where
@@ -35,15 +33,6 @@ AllNamed shape set = (p : ℕ) → p < shape.n → (1 ≤ chosen set p) × (chos
 abbrev pub AreSentTo : TableRows → List ℕ → List Checkpoint → ℕ → List Count → Type 0
 AreSentTo rows sent set j known = (p : ℕ) → p < rows.shape.n → counters known p ≡ S rows.shape sent p (chosen set p) j
 
--- what the test of a row answers: permitted, or the partner that offends, numbered from 1
-abbrev pub permission_of : Option ℕ → Permission
-permission_of none = Permitted
-permission_of (some p) = Offends (record { 0 = suc p })
-
-abbrev pub is_permitted : Permission → Bool
-is_permitted Permitted = true
-is_permitted (Offends p) = false
-
 -- process j's checkpoint in a set, tested against what the others' have sent to it
-abbrev pub in_set : View → (ℕ → ℕ) → ℕ → Permission
-in_set v c j = permission_of (lowest_offending v.n (v.R j (c j)) (sent_to v c j))
+abbrev pub in_set : View → (ℕ → ℕ) → ℕ → Option Process
+in_set v c j = named_as (lowest_offending v.n (v.R j (c j)) (sent_to v c j))

@@ -5,67 +5,43 @@ ghost use Rattle.std.specs.Prelude.{◌≡◌, ◌-◌, ◌≤◌};
 ghost use Rattle.book.specs.Lent.{lent};
 ghost use Rattle.book.specs.View.{count, R};
 ghost use Rattle.book.specs.Accepted.{AcceptedRows, IsProcess};
+ghost use Rattle.book.specs.InTurn.{answer_to};
+ghost use Rattle.book.specs.Numbers.{by_number};
 ghost use Rattle.line_theory.specs.Sets.{first_fault};
 ghost use Rattle.line_theory.specs.Search.{lowest_offending, newest};
 ghost use Rattle.line_theory.specs.OfTables.{view_of};
 ghost use Rattle.consistency.specs.Set.{chosen, is_there, all_there, shown_as, answer_to_test};
-ghost use Rattle.consistency.specs.Known.{counters, column_question, answer_to_column};
-ghost use Rattle.consistency.specs.Given.{Whole, Rises, AllNamed, AreSentTo, permission_of, is_permitted, in_set};
+ghost use Rattle.consistency.specs.Known.{counters, named_as, column_question, answer_to_column};
+ghost use Rattle.consistency.specs.Given.{Whole, Rises, AllNamed, AreSentTo, in_set};
 
-use book::{Checkpoint, Count, Counter, Process, Shape, TableRows};
+use book::{Checkpoint, Count, Counter, Process, Question, Shape, TableRows};
 
-// One checkpoint against known sent counters: none of its received counters is higher, or this is the lowest partner of
-// whom one is.
-#[derive(Clone, Copy)]
-pub enum Permission {
-    Permitted,
-    Offends(Process),
-}
-
-// The answer of the call that tests one checkpoint.
-#[derive(Clone, Copy)]
-pub enum CheckpointAnswer {
-    Permitted,
-    Offends(Process),
-    Refused(u32),
-}
-
-// The answer to a test of a set: a pair (j, p) is at fault when j's checkpoint received more from p than p's sent to j. The
-// one shown has the lowest j, and for it the lowest p.
-#[derive(Clone, Copy)]
-pub enum SetAnswer {
-    Consistent,
-    AtFault(Process, Process),
-    Refused(u32),
-}
-
-// Are the received counters of process j's checkpoint r at most the known sent counters? The mark is above every counter.
+// The lowest partner that offends: the received counter of process j's checkpoint r is higher than the known sent one. None
+// where the checkpoint is permitted. The mark is above every counter.
 fn test_row(
     rows: TableRows,
     received: &[Counter],
     j: Process,
     r: Checkpoint,
     known: [Count; 16],
-) -> Permission
+) -> Option<Process>
     requires whole { Whole rows received.now × IsProcess rows j.0 }
     requires le_r { (1 ≤ r.0) × (r.0 ≤ count rows.shape (j.0 - 1)) }
-    ensures { result ≡ permission_of (lowest_offending rows.shape.n (λ p. R rows.shape received.now (j.0 - 1) r.0 p) (counters known)) }
+    ensures { result ≡ named_as (lowest_offending rows.shape.n (λ p. R rows.shape received.now (j.0 - 1) r.0 p) (counters known)) }
 {
     let shape = rows.shape;
     let n = shape.n;
     let firsts = rows.first;
     let place = j.0 - 1;
     let first = firsts[place];
-    let mut p = 0;
-    while p < n {
+    for p in 0..n {
         let had = book::counter(received, first, r, Process(p + 1));
         let sent = known[p];
         if sent.0 < had.0 {
-            return Permission::Offends(Process(p + 1));
+            return Some(Process(p + 1));
         }
-        p += 1;
     }
-    Permission::Permitted
+    None
 }
 
 // The newest checkpoint of process j, from one back, that the known sent counters permit; 0 for none, but in a book there
@@ -83,7 +59,7 @@ fn newest_permitted(
 {
     let mut r = from.0;
     while 0 < r {
-        if is_permitted(test_row(rows, received, j, Checkpoint(r), known)) {
+        if test_row(rows, received, j, Checkpoint(r), known).is_none() {
             return Checkpoint(r);
         }
         r -= 1;
@@ -125,7 +101,7 @@ fn upwards(
     let count = counts[place];
     let mut last = from.0;
     while last < count {
-        if !is_permitted(test_row(rows, received, j, Checkpoint(last + 1), known)) {
+        if test_row(rows, received, j, Checkpoint(last + 1), known).is_some() {
             return Checkpoint(last);
         }
         last += 1;
@@ -155,16 +131,6 @@ pub fn newest_near(
     upwards(rows, received, j, from, known)
 }
 
-// The answer as a truth value.
-fn is_permitted(permission: Permission) -> bool
-    ensures { result ≡ is_permitted permission }
-{
-    match permission {
-        Permission::Permitted => true,
-        Permission::Offends(_) => false,
-    }
-}
-
 // What the checkpoints of a set have sent to process j; zero for absent processes.
 fn sent_to(rows: TableRows, sent: &[Counter], set: [Checkpoint; 16], j: Process) -> [Count; 16]
     requires whole { Whole rows sent.now × IsProcess rows j.0 }
@@ -175,11 +141,9 @@ fn sent_to(rows: TableRows, sent: &[Counter], set: [Checkpoint; 16], j: Process)
     let n = shape.n;
     let first = rows.first;
     let mut known = [Count(0); 16];
-    let mut p = 0;
-    while p < n {
+    for p in 0..n {
         let r = set[p];
         known[p] = book::counter(sent, first[p], r, j);
-        p += 1;
     }
     known
 }
@@ -191,7 +155,7 @@ fn test_in_set(
     received: &[Counter],
     set: [Checkpoint; 16],
     j: Process,
-) -> Permission
+) -> Option<Process>
     requires accepted_rows { AcceptedRows rows sent.now received.now × IsProcess rows j.0 }
     requires all_named { AllNamed rows.shape set }
     ensures { result ≡ in_set (view_of (lent rows.shape sent.now received.now)) (chosen set) (j.0 - 1) }
@@ -208,13 +172,11 @@ fn all_there(shape: Shape, set: [Checkpoint; 16]) -> bool
 {
     let n = shape.n;
     let counts = shape.counts;
-    let mut j = 0;
-    while j < book::MOST_PROCESSES {
+    for j in 0..book::MOST_PROCESSES {
         let r = set[j];
         if !is_there(j < n, counts[j], r) {
             return false;
         }
-        j += 1;
     }
     true
 }
@@ -232,77 +194,68 @@ fn is_there(present: bool, count: usize, r: Checkpoint) -> bool
     r.0 <= count
 }
 
-// The first pair at fault in a set, if there is one: processes are tested in turn, and each names its lowest partner.
+// The first pair at fault in a set, if there is one: (j, p) is when j's checkpoint received more from p than p's sent to j.
+// Processes are tested in turn, and each names its lowest partner: so the pair has the lowest j, and for it the lowest p.
 fn test_pairs(
     rows: TableRows,
     sent: &[Counter],
     received: &[Counter],
     set: [Checkpoint; 16],
-) -> SetAnswer
+) -> Option<(Process, Process)>
     requires { AcceptedRows rows sent.now received.now × AllNamed rows.shape set }
     ensures { result ≡ shown_as (first_fault (view_of (lent rows.shape sent.now received.now)) (chosen set)) }
 {
     let shape = rows.shape;
     let n = shape.n;
-    let mut j = 0;
-    while j < n {
-        let permission = test_in_set(rows, sent, received, set, Process(j + 1));
-        if let Permission::Offends(p) = permission {
-            return SetAnswer::AtFault(Process(j + 1), p);
+    for j in 0..n {
+        if let Some(p) = test_in_set(rows, sent, received, set, Process(j + 1)) {
+            return Some((Process(j + 1), p));
         }
-        j += 1;
     }
-    SetAnswer::Consistent
+    None
 }
 
-// Is a named set consistent, and if not, which is the first pair at fault? The tables' questions come first, then 12.
+// The first pair at fault in a named set; none where the set is consistent. The tables' questions come first, then 12.
 pub fn test_set(
     shape: Shape,
     sent: &[Counter],
     received: &[Counter],
     set: [Checkpoint; 16],
-) -> SetAnswer
-    ensures { result ≡ answer_to_test (lent shape sent.now received.now) set }
+) -> Result<Option<(Process, Process)>, Question>
+    ensures { by_number result ≡ answer_to_test (lent shape sent.now received.now) set }
 {
-    let question = tables::question(shape, sent, received);
-    if question != 0 {
-        return SetAnswer::Refused(question);
-    }
-    let exist = all_there(shape, set);
-    if !exist {
-        return SetAnswer::Refused(12);
+    tables::check(shape, sent, received)?;
+    if !all_there(shape, set) {
+        return Err(Question::Exists);
     }
     let rows = book::rows_of(shape);
-    test_pairs(rows, sent, received, set)
+    Ok(test_pairs(rows, sent, received, set))
 }
 
-// The first question that a test of one checkpoint fails: of the tables, then 10 and 12; 0 for none.
+// The questions of a test of one checkpoint: those of the tables, then 10 and 12.
 fn column_question(
     shape: Shape,
     sent: &[Counter],
     received: &[Counter],
     j: Process,
     r: Checkpoint,
-) -> u32
-    ensures { result ≡ column_question (lent shape sent.now received.now) j.0 r.0 }
+) -> Result<(), Question>
+    ensures { by_number result ≡ answer_to (column_question (lent shape sent.now received.now) j.0 r.0) }
 {
-    let question = tables::question(shape, sent, received);
-    if question != 0 {
-        return question;
-    }
+    tables::check(shape, sent, received)?;
     if !book::is_named(shape.n, j.0) {
-        return 10;
+        return Err(Question::Named);
     }
     let counts = shape.counts;
     let place = j.0 - 1;
     if !is_there(true, counts[place], r) {
-        return 12;
+        return Err(Question::Exists);
     }
-    0
+    Ok(())
 }
 
-// Has process j's checkpoint r received more than is known to be sent to it, and if so, from which partner first? The mark
-// for "not known" permits everything. The tables' questions come first, then 10 and 12.
+// The lowest partner from which process j's checkpoint r received more than is known to be sent to it, if there is one. The
+// mark for "not known" permits everything. The tables' questions come first, then 10 and 12.
 pub fn test_checkpoint(
     shape: Shape,
     sent: &[Counter],
@@ -310,17 +263,10 @@ pub fn test_checkpoint(
     j: Process,
     r: Checkpoint,
     known: [Count; 16],
-) -> CheckpointAnswer
-    ensures { result ≡ answer_to_column (lent shape sent.now received.now) j.0 r.0 known }
+) -> Result<Option<Process>, Question>
+    ensures { by_number result ≡ answer_to_column (lent shape sent.now received.now) j.0 r.0 known }
 {
-    let question = column_question(shape, sent, received, j, r);
-    if question != 0 {
-        return CheckpointAnswer::Refused(question);
-    }
+    column_question(shape, sent, received, j, r)?;
     let rows = book::rows_of(shape);
-    let permission = test_row(rows, received, j, r, known);
-    match permission {
-        Permission::Permitted => CheckpointAnswer::Permitted,
-        Permission::Offends(p) => CheckpointAnswer::Offends(p),
-    }
+    Ok(test_row(rows, received, j, r, known))
 }

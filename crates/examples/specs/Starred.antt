@@ -1,21 +1,17 @@
 -- Document 01, "Books and sessions tried": all starred examples, in one list, and what each of them claims of the
 -- definitions that the contracts cite.
-use Rattle.std.specs.Prelude.{◌≡◌, List, [], ◌∷◌, ℕ, ◌-◌, length}
+use Rattle.std.specs.Prelude.{◌≡◌, List, [], ◌∷◌, ℕ, ◌-◌, length, Option, Some, None, Result, Ok, Err}
 use Rattle.book.specs.Lent.{Tables}
-use Rattle.varint.specs.declared.Numeral.TheVariants as numeral
 use Rattle.varint.specs.Number.{encode, read_number}
 use Rattle.book.specs.declared.Shape.{Shape}
 use Rattle.book.specs.declared.Checkpoint.{Checkpoint}
-use Rattle.book.specs.declared.Answer.{Answer}
-use Rattle.book.specs.declared.Answer.TheVariants as answer
+use Rattle.book.specs.declared.Process.{Process}
 use Rattle.book.specs.Bounds.{groups, largest, most_processes}
 use Rattle.book.specs.Tables.{padded}
 use Rattle.book.specs.View.{S, R}
 use Rattle.book.specs.InTurn.{answer_to}
 use Rattle.book.specs.Check.{tables_question}
 use Rattle.book.specs.Read.{no_shape, read_question, shape_read, sent_read, received_read, tables_read}
-use Rattle.consistency.specs.declared.SetAnswer.{SetAnswer}
-use Rattle.consistency.specs.declared.SetAnswer.TheVariants as test
 use Rattle.consistency.specs.Set.{answer_to_test}
 use Rattle.finder.specs.Line.{line_found, passed_found}
 use Rattle.restart.specs.Calls.{move_question, shape_moved}
@@ -47,38 +43,38 @@ pub data Example : Type 0 where
   MovedTo : List ℕ → ℕ → List ℕ → Example
 
 -- what a read of a book answers, with the shape beside it
-abbrev pub answered : List ℕ → Answer × Shape
+abbrev pub answered : List ℕ → Result (Unit {0}) ℕ × Shape
 answered book = (answer_to (read_question book blank blank), shape_read book blank blank)
 
 -- what a test of a set answers in the tables of a book
-abbrev pub tested : List ℕ → List ℕ → SetAnswer
+abbrev pub tested : List ℕ → List ℕ → Result (Option (Process × Process)) ℕ
 tested book set = answer_to_test (tables_read book blank blank) (set_of set)
 
 -- what a search for the line answers in the tables of a book, with the line and T beside it
-abbrev pub found : List ℕ → Answer × List Checkpoint × ℕ
+abbrev pub found : List ℕ → Result (Unit {0}) ℕ × List Checkpoint × ℕ
 found book =
     let tables : Tables = tables_read book blank blank in
     (answer_to (tables_question tables), line_found tables, passed_found tables)
 
 -- what a move answers in the tables of a book, with the counts beside it
-abbrev pub moved_in : List ℕ → ℕ → Answer × List ℕ
+abbrev pub moved_in : List ℕ → ℕ → Result (Unit {0}) ℕ × List ℕ
 moved_in book purpose =
     let tables : Tables = tables_read book blank blank in
     (answer_to (move_question tables purpose), (shape_moved tables purpose).counts)
 
 abbrev pub Holds : Example → Type 0
 Holds (HasBytes n bytes) = encode n ≡ bytes
-Holds (IsNumber bytes n) = read_number groups largest bytes 0 ≡ numeral.Number n (length bytes)
-Holds (NoNumber bytes) = read_number groups largest bytes 0 ≡ numeral.Refused
-Holds (RefusedBy book question) = answered book ≡ (answer.Refused question, no_shape)
-Holds (AcceptedAs book n counts) = answered book ≡ (answer.Accepted, record { n = n; counts = padded most_processes counts })
+Holds (IsNumber bytes n) = read_number groups largest bytes 0 ≡ Some (n, length bytes)
+Holds (NoNumber bytes) = read_number groups largest bytes 0 ≡ None
+Holds (RefusedBy book question) = answered book ≡ (Err question, no_shape)
+Holds (AcceptedAs book n counts) = answered book ≡ (Ok tt, record { n = n; counts = padded most_processes counts })
 Holds (HasSent book j r p v) = S (shape_read book blank blank) (sent_read book blank blank) (j - 1) r (p - 1) ≡ v
 Holds (HasReceived book j r p v) = R (shape_read book blank blank) (received_read book blank blank) (j - 1) r (p - 1) ≡ v
-Holds (NotConsistent book set j p) = tested book set ≡ test.AtFault (record { 0 = j }) (record { 0 = p })
-Holds (HasLine book line passed) = found book ≡ (answer.Accepted, set_of line, passed)
+Holds (NotConsistent book set j p) = tested book set ≡ Ok (Some (record { 0 = j }, record { 0 = p }))
+Holds (HasLine book line passed) = found book ≡ (Ok tt, set_of line, passed)
 Holds (Searched book initiator line rounds messages) =
     searched_in book initiator ≡ ended_on line rounds messages
-Holds (MovedTo book purpose counts) = moved_in book purpose ≡ (answer.Accepted, padded most_processes counts)
+Holds (MovedTo book purpose counts) = moved_in book purpose ≡ (Ok tt, padded most_processes counts)
 
 -- all of a list hold
 infixr 5 ◌also◌

@@ -1,13 +1,15 @@
 -- The newest set, from which the call starts, and from what the finder ends on to the definitions.
-use mathlib.Core.Path.{◌≡◌, sym, ap, subst, ◌∙◌}
+use mathlib.Core.Path.{◌≡◌, sym, ap, ap₂, subst, ◌∙◌}
+use mathlib.Core.List.{List}
 use Prim.Native.Nat.{ℕ, ◌≤◌}
 use native.Mathlib.Omega.{arith}
 use lib.ListN.{get_or-eq_default}
+use Rattle.book.specs.declared.Checkpoint.{Checkpoint}
 use Rattle.book.specs.View.{count}
 use Rattle.book.specs.Lent.{Tables}
 use Rattle.book.specs.Check.{tables_question}
 use Rattle.book.specs.Accepted.{AreAccepted}
-use Rattle.book.proofs.Questions.{kept_passed, kept_refused}
+use Rattle.book.proofs.Questions.{kept_passed}
 use Rattle.line_theory.specs.Sets.{View, newer_than, cut}
 use Rattle.line_theory.specs.Search.{line}
 use Rattle.line_theory.specs.OfTables.{view_of}
@@ -15,7 +17,7 @@ use Rattle.line_theory.proofs.Accepted.{accepted_absent, accepted_book}
 use Rattle.finder.specs.declared.Line.{Line}
 use Rattle.consistency.specs.Set.{chosen}
 use Rattle.consistency.specs.Given.{AllNamed}
-use Rattle.finder.specs.Line.{checkpoints, no_line, line_found, passed_found, IsLineOf}
+use Rattle.finder.specs.Line.{checkpoints, no_line, line_found, passed_found, found_in, IsLineOf}
 use Rattle.finder.proofs.Sixteen.{chosen_of}
 
 module _ {t : Tables} (accepted : AreAccepted t) where
@@ -39,10 +41,8 @@ module _ {t : Tables} (accepted : AreAccepted t) where
         whole.1 ∙ sym (kept_passed (tables_question t) 0 (newer_than v (line v)) accepted.passed),
       )
 
-pub line_refused : (t : Tables) → (tables_question t ≡ 0 → ⊥) → (no_line ≡ line_found t) × (0 ≡ passed_found t)
-unfolding line_found passed_found
-line_refused t h =
-    let v : View = view_of t in (
-      sym (kept_refused (tables_question t) no_line (checkpoints (line v)) h),
-      sym (kept_refused (tables_question t) 0 (newer_than v (line v)) h),
-    )
+  pub found_is : (found : Line) → IsLineOf (cut (view_of t) (chosen (checkpoints (count t.shape)))) found → found ≡ found_in t
+  found_is found h =
+      let parts = line_found_lem found h in
+      let made : List Checkpoint → ℕ → Line = λ s k. record { set = s; passed = k } in
+      ap₂ made parts.0 parts.1

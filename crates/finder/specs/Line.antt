@@ -1,5 +1,5 @@
--- Document 01, "The line": finding it. The answer is that of the tables' questions; beside it stand the line, with zeros
--- for absent processes, and T.
+-- Document 01, "The line": finding it. Unless a question of the tables refuses, the answer is the line, with zeros for
+-- absent processes, and T.
 use Rattle.std.specs.Prelude.{◌≡◌, List, ℕ, replicate}
 use Rattle.book.specs.Lent.{Tables}
 use Rattle.book.specs.declared.Checkpoint.{Checkpoint}
@@ -25,6 +25,10 @@ line_found tables = unless_refused (tables_question tables) no_line (checkpoints
 
 unfoldable pub passed_found : Tables → ℕ
 passed_found tables = unless_refused (tables_question tables) 0 (passed (view_of tables))
+
+-- both
+abbrev pub found_in : Tables → Line
+found_in tables = record { set = line_found tables; passed = passed_found tables }
 
 -- the line of a book, cut to the set that a search starts from, and how far it is from that set
 abbrev pub IsLineOf : View → Line → Type 0

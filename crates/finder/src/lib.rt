@@ -3,25 +3,18 @@
 ghost use Rattle.std.specs.Prelude.{◌≡◌, ◌≤◌, ◌<◌, length};
 ghost use Rattle.book.specs.Lent.{lent};
 ghost use Rattle.book.specs.View.{count};
-ghost use Rattle.book.specs.InTurn.{answer_to};
+ghost use Rattle.book.specs.InTurn.{answer_with};
+ghost use Rattle.book.specs.Numbers.{by_number};
 ghost use Rattle.book.specs.Check.{tables_question};
 ghost use Rattle.book.specs.Accepted.{AcceptedRows};
 ghost use Rattle.line_theory.specs.Sets.{cut};
 ghost use Rattle.line_theory.specs.OfTables.{view_of};
 ghost use Rattle.consistency.specs.Set.{chosen};
 ghost use Rattle.consistency.specs.Given.{AllNamed};
-ghost use Rattle.finder.specs.Line.{checkpoints, line_found, passed_found, IsLineOf};
+ghost use Rattle.finder.specs.Line.{checkpoints, found_in, IsLineOf};
 ghost use Rattle.finder.specs.Steps.{AbsentZero, Named, SameSet, set_at, row_of, by_row, RowsGiven, ForSixteen, must_step_back, flagged, AreFlags, FlaggedBeside, SteppedBack, IsFirstFlagged};
 
-use book::{Answer, Checkpoint, Counter, Shape, TableRows};
-
-// The answer of `find_line`; beside a refusal all numbers are zero.
-#[derive(Clone, Copy)]
-pub struct FoundLine {
-    pub answer: Answer,
-    pub line: [Checkpoint; 16],
-    pub passed: usize,
-}
+use book::{Checkpoint, Counter, Question, Shape, TableRows};
 
 // A line, and how many steps of one checkpoint back led to it.
 #[derive(Clone, Copy)]
@@ -39,11 +32,9 @@ fn rows_at(rows: TableRows, set: [Checkpoint; 16]) -> [usize; 16]
     let n = shape.n;
     let first = rows.first;
     let mut at = [0usize; 16];
-    let mut j = 0;
-    while j < n {
+    for j in 0..n {
         let r = set[j];
         at[j] = first[j] + (r.0 - 1);
-        j += 1;
     }
     at
 }
@@ -58,10 +49,8 @@ fn set_at(rows: TableRows, at: &[usize; 16]) -> [Checkpoint; 16]
     let n = shape.n;
     let first = rows.first;
     let mut set = [Checkpoint(0); 16];
-    let mut j = 0;
-    while j < n {
+    for j in 0..n {
         set[j] = Checkpoint(at[j] - first[j] + 1);
-        j += 1;
     }
     set
 }
@@ -79,13 +68,11 @@ fn must_step_back(
     ensures { result ≡ must_step_back (by_row n sent.now received.now) (row_of at.now) j }
 {
     let own = at[j] * book::ROW_WIDTH;
-    let mut p = 0;
-    while p < n {
+    for p in 0..n {
         let other = at[p] * book::ROW_WIDTH;
         if sent[other + j] < received[own + p] {
             return true;
         }
-        p += 1;
     }
     false
 }
@@ -96,10 +83,8 @@ fn flags_of(sent: &[Counter], received: &[Counter], at: &[usize; 16], n: usize) 
     ensures { AreFlags (by_row n sent.now received.now) (row_of at.now) (flagged result) }
 {
     let mut flags = [false; 16];
-    let mut j = 0;
-    while j < n {
+    for j in 0..n {
         flags[j] = must_step_back(sent, received, at, n, j);
-        j += 1;
     }
     flags
 }
@@ -119,13 +104,11 @@ fn flag_at_fault(
     ensures flags_len { length flags.new ≡ 16 }
 {
     let own = at[j] * book::ROW_WIDTH;
-    let mut p = 0;
-    while p < n {
+    for p in 0..n {
         let other = at[p] * book::ROW_WIDTH;
         if sent[own + p] < received[other + j] {
             flags[p] = true;
         }
-        p += 1;
     }
 }
 
@@ -154,12 +137,10 @@ fn first_flagged(flags: &[bool; 16], n: usize) -> usize
     requires { n ≤ 16 }
     ensures { IsFirstFlagged n (flagged flags.now) result }
 {
-    let mut j = 0;
-    while j < n {
+    for j in 0..n {
         if flags[j] {
             return j;
         }
-        j += 1;
     }
     n
 }
@@ -204,37 +185,18 @@ pub fn newest_set(shape: Shape) -> [Checkpoint; 16]
 {
     let counts = shape.counts;
     let mut set = [Checkpoint(0); 16];
-    let mut j = 0;
-    while j < book::MOST_PROCESSES {
+    for j in 0..book::MOST_PROCESSES {
         set[j] = Checkpoint(counts[j]);
-        j += 1;
     }
     set
 }
 
 // The line of the tables, and T. The tables' questions come first.
-pub fn find_line(shape: Shape, sent: &[Counter], received: &[Counter]) -> FoundLine
-    ensures answer_value { result.answer ≡ answer_to (tables_question (lent shape sent.now received.now)) }
-    ensures line_value { result.line ≡ line_found (lent shape sent.now received.now) }
-    ensures passed_value { result.passed ≡ passed_found (lent shape sent.now received.now) }
+pub fn find_line(shape: Shape, sent: &[Counter], received: &[Counter]) -> Result<Line, Question>
+    ensures { by_number result ≡ answer_with (tables_question (lent shape sent.now received.now)) (found_in (lent shape sent.now received.now)) }
 {
-    let question = tables::question(shape, sent, received);
-    if question != 0 {
-        let line = [Checkpoint(0); 16];
-        return FoundLine {
-            answer: Answer::Refused(question),
-            line,
-            passed: 0,
-        };
-    }
+    tables::check(shape, sent, received)?;
     let rows = book::rows_of(shape);
     let newest = newest_set(shape);
-    let found = find_from(rows, sent, received, newest);
-    let line = found.set;
-    let passed = found.passed;
-    FoundLine {
-        answer: Answer::Accepted,
-        line,
-        passed,
-    }
+    Ok(find_from(rows, sent, received, newest))
 }

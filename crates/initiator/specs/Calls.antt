@@ -31,7 +31,7 @@ begin_question tables me purpose out =
     then λ _. ask 11 (is_purpose purpose)
     then λ _. room_question (begin_on tables me purpose).outgoing out
 
--- beside a refusal: all zero, and ended
+-- where there is none: all zero, and ended
 unfoldable pub no_initiator : Initiator
 no_initiator = without_wait 0 (record { 0 = 0 }) 0 0 (as_matrix (λ j p. 0))
 

@@ -4,12 +4,12 @@ mod fits;
 mod step;
 
 ghost use Rattle.std.specs.Prelude.{◌≡◌, ◌-◌, ◌≤◌, ◌<◌};
-ghost use Rattle.book.specs.InTurn.{◌then◌, ask, answer_to};
+ghost use Rattle.book.specs.InTurn.{◌then◌, ask, answer_to, answer_with};
+ghost use Rattle.book.specs.Numbers.{by_number};
 ghost use Rattle.lists.specs.Pick.{pick};
 ghost use Rattle.matrix.specs.Matrix.{row};
 ghost use Rattle.matrix.specs.Entries.{all_lower};
 ghost use Rattle.book.specs.Names.{is_named, is_purpose};
-ghost use Rattle.mail.specs.Outgoing.{no_lengths};
 ghost use Rattle.machine.specs.Own.{own_of};
 ghost use Rattle.machine.specs.Named.{tally_limit};
 ghost use Rattle.machine.specs.Flags.{someone};
@@ -19,7 +19,7 @@ ghost use Rattle.initiator.specs.Begin.{wait, without_wait, begin_search, begin_
 ghost use Rattle.initiator.specs.Step.{sender_of, awaits};
 ghost use Rattle.initiator.specs.Calls.{begin_question, no_initiator, state_begun, lengths_begun, bytes_begun, state_question, receive_question, state_after, lengths_after, bytes_after};
 
-use book::{Answer, Checkpoint, Count, Counter, Process, Shape, TableRows};
+use book::{Checkpoint, Count, Counter, Process, Question, Shape, TableRows};
 use mail::Outgoing;
 use message::{Head, Message};
 
@@ -45,11 +45,9 @@ pub struct InitiatorStep {
     pub outgoing: Outgoing,
 }
 
-// The answer of `begin` and `receive`: the state afterwards, and the length written for each process. A refusal hands back the
-// state that was given, or one that is all zero (and ended) where none was, and all lengths are zero.
+// What `begin` and `receive` answer: the state afterwards, and the length written for each process.
 #[derive(Clone, Copy)]
-pub struct InitiatorAnswer {
-    pub answer: Answer,
+pub struct InitiatorAfter {
     pub state: Initiator,
     pub lengths: [usize; 16],
 }
@@ -78,7 +76,7 @@ fn without_wait(
     }
 }
 
-// Beside a refusal.
+// Where there is none.
 pub fn no_initiator() -> Initiator
     ensures { result ≡ no_initiator }
 {
@@ -170,55 +168,47 @@ impl Initiator {
     }
 
     // Questions 10, 11 and 13 of a state, on accepted tables.
-    fn state_question(self, rows: TableRows, sent: &[Counter], received: &[Counter]) -> u32
+    fn state_question(
+        self,
+        rows: TableRows,
+        sent: &[Counter],
+        received: &[Counter],
+    ) -> Result<(), Question>
         requires { AcceptedRows rows sent.now received.now }
-        ensures { result ≡ state_question rows.shape.n (own_of (lent rows.shape sent.now received.now) (self.me.0 - 1)) self }
+        ensures { by_number result ≡ answer_to (state_question rows.shape.n (own_of (lent rows.shape sent.now received.now) (self.me.0 - 1)) self) }
     {
         let shape = rows.shape;
         let me = self.me;
         if !book::is_named(shape.n, me.0) {
-            return 10;
+            return Err(Question::Named);
         }
         if !book::is_purpose(self.purpose) {
-            return 11;
+            return Err(Question::Purpose);
         }
         if !self.fits(rows, sent, received) {
-            return 13;
+            return Err(Question::StateFits);
         }
-        0
+        Ok(())
     }
 
     // Questions 15 and 16 of a message that is formed.
-    pub fn awaited_question(self, message: Message) -> u32
+    pub fn awaited_question(self, message: Message) -> Result<(), Question>
         requires le_sender { (1 ≤ message.head.sender.0) × (message.head.sender.0 ≤ 16) }
         requires le_n { 1 ≤ self.n }
-        ensures { result ≡ (ask 15 (awaits self message) then λ _. ask 16 (all_lower message.news (row self.matrix (sender_of message)))) }
+        ensures { by_number result ≡ answer_to (ask 15 (awaits self message) then λ _. ask 16 (all_lower message.news (row self.matrix (sender_of message)))) }
     {
         let head = message.head;
         let sender = head.sender;
         let news = message.news;
         let matrix = self.matrix;
         if !self.awaits(message) {
-            return 15;
+            return Err(Question::Awaited);
         }
         let held = matrix::row(matrix, sender);
         if !matrix::all_lower(news, held) {
-            return 16;
+            return Err(Question::Lower);
         }
-        0
-    }
-
-    // The question that refuses, with the state and no lengths.
-    fn refused(self, question: u32) -> InitiatorAnswer
-        requires { 1 ≤ question }
-        ensures { (result.answer ≡ answer_to question) × ((result.state ≡ self) × (result.lengths ≡ no_lengths)) }
-    {
-        let lengths = [0usize; 16];
-        InitiatorAnswer {
-            answer: Answer::Refused(question),
-            state: self,
-            lengths,
-        }
+        Ok(())
     }
 
     // The initiator begins: its first state, and the invitations at the start of the buffer. Questions: the tables', then 10,
@@ -230,34 +220,18 @@ impl Initiator {
         me: Process,
         purpose: u64,
         out: &mut [u8],
-    ) -> InitiatorAnswer
-        ensures answer_value { result.answer ≡ answer_to (begin_question (lent shape sent.now received.now) me purpose out.old) }
-        ensures state_value { result.state ≡ state_begun (lent shape sent.now received.now) me purpose out.old }
-        ensures lengths_value { result.lengths ≡ lengths_begun (lent shape sent.now received.now) me purpose out.old }
+    ) -> Result<InitiatorAfter, Question>
+        ensures answer { by_number result ≡ answer_with (begin_question (lent shape sent.now received.now) me purpose out.old) (record { state = state_begun (lent shape sent.now received.now) me purpose out.old; lengths = lengths_begun (lent shape sent.now received.now) me purpose out.old }) }
         ensures out_after { out.new ≡ bytes_begun (lent shape sent.now received.now) me purpose out.old }
     {
-        let question = tables::question(shape, sent, received);
-        if question != 0 {
-            return no_initiator().refused(question);
-        }
-        let question = begin_question(shape.n, me, purpose);
-        if question != 0 {
-            return no_initiator().refused(question);
-        }
+        tables::check(shape, sent, received)?;
+        begin_question(shape.n, me, purpose)?;
         let rows = book::rows_of(shape);
         let next = first_step(rows, sent, received, me, purpose);
         let outgoing = next.outgoing;
-        let done = mail::send(outgoing, out);
-        if done.question != 0 {
-            return no_initiator().refused(done.question);
-        }
+        let lengths = mail::send(outgoing, out)?;
         let state = next.state;
-        let lengths = done.lengths;
-        InitiatorAnswer {
-            answer: Answer::Accepted,
-            state,
-            lengths,
-        }
+        Ok(InitiatorAfter { state, lengths })
     }
 
     // The initiator receives a message: the step, and what it sends at the start of the buffer. Questions: the tables', 10, 11,
@@ -269,58 +243,37 @@ impl Initiator {
         received: &[Counter],
         s: &[u8],
         out: &mut [u8],
-    ) -> InitiatorAnswer
-        ensures answer_value { result.answer ≡ answer_to (receive_question (lent shape sent.now received.now) self s.now out.old) }
-        ensures state_value { result.state ≡ state_after (lent shape sent.now received.now) self s.now out.old }
-        ensures lengths_value { result.lengths ≡ lengths_after (lent shape sent.now received.now) self s.now out.old }
+    ) -> Result<InitiatorAfter, Question>
+        ensures answer { by_number result ≡ answer_with (receive_question (lent shape sent.now received.now) self s.now out.old) (record { state = state_after (lent shape sent.now received.now) self s.now out.old; lengths = lengths_after (lent shape sent.now received.now) self s.now out.old }) }
         ensures out_after { out.new ≡ bytes_after (lent shape sent.now received.now) self s.now out.old }
     {
-        let question = tables::question(shape, sent, received);
-        if question != 0 {
-            return self.refused(question);
-        }
+        tables::check(shape, sent, received)?;
         let rows = book::rows_of(shape);
-        let question = self.state_question(rows, sent, received);
-        if question != 0 {
-            return self.refused(question);
-        }
+        self.state_question(rows, sent, received)?;
         let me = self.me;
-        let read = message::read_message(s, shape.n, me, me);
-        if !read.formed {
-            return self.refused(14);
-        }
-        let message = read.message;
-        let question = self.awaited_question(message);
-        if question != 0 {
-            return self.refused(question);
-        }
+        let Some(message) = message::read_message(s, shape.n, me, me) else {
+            return Err(Question::MessageFormed);
+        };
+        self.awaited_question(message)?;
         let next = self.step(rows, sent, received, message);
         let outgoing = next.outgoing;
-        let done = mail::send(outgoing, out);
-        if done.question != 0 {
-            return self.refused(done.question);
-        }
+        let lengths = mail::send(outgoing, out)?;
         let state = next.state;
-        let lengths = done.lengths;
-        InitiatorAnswer {
-            answer: Answer::Accepted,
-            state,
-            lengths,
-        }
+        Ok(InitiatorAfter { state, lengths })
     }
 }
 
 // Questions 10 and 11 of a beginning.
-pub fn begin_question(n: usize, me: Process, purpose: u64) -> u32
-    ensures { result ≡ (ask 10 (is_named n me.0) then λ _. ask 11 (is_purpose purpose)) }
+pub fn begin_question(n: usize, me: Process, purpose: u64) -> Result<(), Question>
+    ensures { by_number result ≡ answer_to (ask 10 (is_named n me.0) then λ _. ask 11 (is_purpose purpose)) }
 {
     if !book::is_named(n, me.0) {
-        return 10;
+        return Err(Question::Named);
     }
     if !book::is_purpose(purpose) {
-        return 11;
+        return Err(Question::Purpose);
     }
-    0
+    Ok(())
 }
 
 // A search, or a bare restart with purpose 2. Inner: a process of accepted tables.

@@ -123,10 +123,8 @@ impl Initiator {
         let own = me.0 - 1;
         let differ = matrix::columns_differ(matrix, copy);
         let mut flags = [false; 16];
-        let mut p = 0;
-        while p < book::MOST_PROCESSES {
+        for p in 0..book::MOST_PROCESSES {
             flags[p] = machine::is_participant(n, own, p) && differ[p];
-            p += 1;
         }
         flags
     }

@@ -1,4 +1,5 @@
 -- What a journal that no question refuses says of its bytes, its tables, n and its events.
+use Rattle.std.specs.Prelude.{Option, Some, None}
 use mathlib.Core.Path.{◌≡◌, refl, sym, ap, ap₂, subst, ◌∙◌}
 use mathlib.Core.Bool.{Bool, true}
 use mathlib.Core.List.{List, [], ◌∷◌, ◌++◌, append_assoc, append-nil}
@@ -8,8 +9,6 @@ use borrow.Author.Tests.{leb-true}
 use lib.ListN.{length, drop, get_or}
 use lib.Dec.{leb}
 use Rattle.lists.specs.Over.{sum_to}
-use Rattle.varint.specs.declared.Numeral.{Numeral}
-use Rattle.varint.specs.declared.Numeral.TheVariants.{Number, Refused}
 use Rattle.varint.specs.Number.{read_number}
 use Rattle.varint.specs.Sequence.{Numbers}
 use Rattle.varint.proofs.Sequence.{numbers_none}
@@ -78,14 +77,14 @@ module _ (s : List ℕ) where
 
   module _ (passed : journal_numbers_question (numbers_end s 0) (numbers_logged s 0).found ≡ 0) where
     -- a number leads it
-    pub journal_leads : read_number journal_groups journal_largest s 0 ≡ Refused → ⊥
+    pub journal_leads : read_number journal_groups journal_largest s 0 ≡ None → ⊥
     unfolding journal_numbers_question
     journal_leads e =
         let none : (numbers_logged s 0).found ≡ [] = ap (λ (ns : Numbers). ns.found) (numbers_none journal_groups journal_largest s 0 e) in
         let three : journal_numbers_question (numbers_end s 0) [] ≡ 0 = rw none at passed in
         absurd (omega (arith, three))
 
-    module _ (n at : ℕ) (leads : read_number journal_groups journal_largest s 0 ≡ Number n at) where
+    module _ (n at : ℕ) (leads : read_number journal_groups journal_largest s 0 ≡ Some (n, at)) where
       found : (numbers_logged s 0).found ≡ n ∷ (numbers_logged s at).found
       found = (journal_begins s n at leads).0
 
@@ -120,6 +119,6 @@ module _ (s : List ℕ) where
     pub journal_accepted : AcceptedEvents (leading_n s) (events_logged s)
     journal_accepted = go (read_number journal_groups journal_largest s 0) refl
       where
-        go : (r : Numeral) → read_number journal_groups journal_largest s 0 ≡ r → AcceptedEvents (leading_n s) (events_logged s)
-        go Refused e = absurd (journal_leads e)
-        go (Number n at) e = rw (leading_is n at e, events_are n at e) (accepted_from n at e)
+        go : (r : Option (ℕ × ℕ)) → read_number journal_groups journal_largest s 0 ≡ r → AcceptedEvents (leading_n s) (events_logged s)
+        go None e = absurd (journal_leads e)
+        go (Some (n, at)) e = rw (leading_is n at e, events_are n at e) (accepted_from n at e)

@@ -1,4 +1,5 @@
 -- An event in the bytes of a journal: what stands at a place, by the numbers that were read there.
+use Rattle.std.specs.Prelude.{Some, None}
 use mathlib.Core.Path.{◌≡◌, refl, sym, ap, ◌∙◌}
 use mathlib.Core.Bool.{true}
 use mathlib.Core.List.{List, [], ◌∷◌}
@@ -9,7 +10,6 @@ use lib.Seq.{drop-cons}
 use lib.Dec.{eqb}
 use borrow.Author.Tests.{ne_eqb, eq-eqb}
 use Rattle.lists.proofs.Pick.{pick_each}
-use Rattle.varint.specs.declared.Numeral.TheVariants.{Number, Refused}
 use Rattle.varint.specs.Number.{read_number}
 use Rattle.varint.specs.Sequence.{Numbers}
 use Rattle.varint.proofs.Sequence.{numbers_none, numbers_more}
@@ -23,7 +23,7 @@ use Rattle.journal.specs.Parts.{StandsAt}
 
 -- a number of one byte
 pub one_byte : (s : List ℕ) (at : ℕ) → at < length s → get_or s at 0 < 128
-    → read_number journal_groups journal_largest s at ≡ Number (get_or s at 0) (at + 1)
+    → read_number journal_groups journal_largest s at ≡ Some (get_or s at 0, at + 1)
 unfolding read_number
 one_byte s at inside small =
     rw (drop-cons s at 0 inside, groups_last 4 true (get_or s at 0) (drop (suc at) s) at small)
@@ -39,18 +39,18 @@ module _ (s : List ℕ) where
   abbrev front : ℕ → ℕ → Numbers
   front v next = record { found = v ∷ (numbers_logged s next).found; stop = (numbers_logged s next).stop }
 
-  pub no_kind : (at : ℕ) → read_number journal_groups journal_largest s at ≡ Refused → first_event (numbers_logged s at).found ≡ NoEvent
+  pub no_kind : (at : ℕ) → read_number journal_groups journal_largest s at ≡ None → first_event (numbers_logged s at).found ≡ NoEvent
   no_kind at e = ap first (numbers_none journal_groups journal_largest s at e)
 
-  module _ (at kind second : ℕ) (one : read_number journal_groups journal_largest s at ≡ Number kind second) where
+  module _ (at kind second : ℕ) (one : read_number journal_groups journal_largest s at ≡ Some (kind, second)) where
     at_kind : numbers_logged s at ≡ front kind second
     at_kind = numbers_more journal_groups journal_largest s at kind second one
 
-    pub no_process : read_number journal_groups journal_largest s second ≡ Refused → first_event (numbers_logged s at).found ≡ NoEvent
+    pub no_process : read_number journal_groups journal_largest s second ≡ None → first_event (numbers_logged s at).found ≡ NoEvent
     no_process e =
         ap first at_kind ∙ ap (λ (ns : Numbers). first_event (kind ∷ ns.found)) (numbers_none journal_groups journal_largest s second e)
 
-    module _ (process third : ℕ) (two : read_number journal_groups journal_largest s second ≡ Number process third) where
+    module _ (process third : ℕ) (two : read_number journal_groups journal_largest s second ≡ Some (process, third)) where
       at_process : numbers_logged s second ≡ front process third
       at_process = numbers_more journal_groups journal_largest s second process third two
 
@@ -82,14 +82,14 @@ module _ (s : List ℕ) where
           (pick_each (λ (f : Front). f ≡ NoEvent) (eqb kind 1) _ _ sent
           (pick_each (λ (f : Front). f ≡ NoEvent) (eqb kind 2) _ _ received refl))
 
-      pub no_partner : (kind ≡ 3 → ⊥) → read_number journal_groups journal_largest s third ≡ Refused
+      pub no_partner : (kind ≡ 3 → ⊥) → read_number journal_groups journal_largest s third ≡ None
           → first_event (numbers_logged s at).found ≡ NoEvent
       no_partner c e =
           by_kind
           ∙ ap (λ (ns : Numbers). of_kind kind process ns.found) (numbers_none journal_groups journal_largest s third e)
           ∙ no_event [] c refl refl
 
-      module _ (partner next : ℕ) (three : read_number journal_groups journal_largest s third ≡ Number partner next) where
+      module _ (partner next : ℕ) (three : read_number journal_groups journal_largest s third ≡ Some (partner, next)) where
         at_partner : numbers_logged s third ≡ front partner next
         at_partner = numbers_more journal_groups journal_largest s third partner next three
 

@@ -1,4 +1,5 @@
 -- A journal's events from a place on, event by event.
+use Rattle.std.specs.Prelude.{Option, Some, None}
 use mathlib.Core.Path.{◌≡◌, refl, sym, ap, ◌∙◌}
 use mathlib.Core.Bool.{Bool, true, false}
 use mathlib.Core.List.{List, [], ◌∷◌}
@@ -8,8 +9,6 @@ use lib.ListN.{length}
 use lib.Dec.{eqb}
 use borrow.Author.Tests.{eq-eqb, ne_eqb}
 use Rattle.varint.specs.Sequence.{Numbers}
-use Rattle.varint.specs.declared.Numeral.{Numeral}
-use Rattle.varint.specs.declared.Numeral.TheVariants.{Number, Refused}
 use Rattle.varint.specs.Number.{read_number}
 use Rattle.varint.proofs.Sequence.{numbers_none, numbers_more}
 use Rattle.varint.proofs.Reading.{read_past}
@@ -109,11 +108,11 @@ module _ (s : List ℕ) where
       events_stop (numbers_end s at) (numbers_logged s at).found none
       ∙ ap (λ (b : Bool). record { found = []; whole = b }) (go (read_number journal_groups journal_largest s at) refl)
     where
-      go : (r : Numeral) → read_number journal_groups journal_largest s at ≡ r → nothing_follows (numbers_end s at) (numbers_logged s at).found ≡ false
-      go Refused e =
+      go : (r : Option (ℕ × ℕ)) → read_number journal_groups journal_largest s at ≡ r → nothing_follows (numbers_end s at) (numbers_logged s at).found ≡ false
+      go None e =
           ap (λ (ns : Numbers). nothing_follows (eqb ns.stop (length s)) ns.found) (numbers_none journal_groups journal_largest s at e)
           ∙ ne_eqb at (length s) (λ z. absurd (omega (arith, z)))
-      go (Number v next) e =
+      go (Some (v, next)) e =
           ap (λ (ns : Numbers). nothing_follows (eqb ns.stop (length s)) ns.found) (numbers_more journal_groups journal_largest s at v next e)
 
   -- at the end it is
@@ -125,7 +124,7 @@ module _ (s : List ℕ) where
       ∙ ap (λ (b : Bool). record { found = []; whole = b }) (eq-eqb (length s) (length s) refl)
 
   -- a journal's leading n, and its events after it
-  pub journal_begins : (n at : ℕ) → read_number journal_groups journal_largest s 0 ≡ Number n at
+  pub journal_begins : (n at : ℕ) → read_number journal_groups journal_largest s 0 ≡ Some (n, at)
       → ((numbers_logged s 0).found ≡ n ∷ (numbers_logged s at).found) × (numbers_end s 0 ≡ numbers_end s at)
   journal_begins n at e =
       let is = numbers_more journal_groups journal_largest s 0 n at e in

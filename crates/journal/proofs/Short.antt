@@ -1,12 +1,11 @@
 -- Events whose numbers have one byte each, as those of a journal that passes have.
+use Rattle.std.specs.Prelude.{Option, Some, None}
 use mathlib.Core.Path.{◌≡◌, refl, sym, ap, subst, ◌∙◌}
 use mathlib.Core.Bool.{true}
 use mathlib.Core.List.{List, [], ◌∷◌, ◌++◌}
 use Prim.Native.Nat.{ℕ, suc, ◌+◌, ◌≤◌, ◌<◌}
 use native.Mathlib.Omega.{arith}
 use lib.ListN.{length, get_or}
-use Rattle.varint.specs.declared.Numeral.{Numeral}
-use Rattle.varint.specs.declared.Numeral.TheVariants.{Number, Refused}
 use Rattle.varint.specs.Number.{read_number}
 use Rattle.varint.specs.Sequence.{Numbers}
 use Rattle.varint.proofs.Sequence.{numbers_none, numbers_more}
@@ -28,18 +27,18 @@ module _ (s : List ℕ) where
   pub record OneByte (at v : ℕ) (more : List ℕ) : Type 0 where
     pub inside : at < length s
     pub value : get_or s at 0 ≡ v
-    pub read : read_number journal_groups journal_largest s at ≡ Number (get_or s at 0) (at + 1)
+    pub read : read_number journal_groups journal_largest s at ≡ Some (get_or s at 0, at + 1)
     pub after : (numbers_logged s (at + 1)).found ≡ more
 
   number_first : (at v : ℕ) (more : List ℕ) → v < 128 → (numbers_logged s at).found ≡ v ∷ more → OneByte at v more
   number_first at v more small is = go (read_number journal_groups journal_largest s at) refl
     where
-      go : (r : Numeral) → read_number journal_groups journal_largest s at ≡ r → OneByte at v more
-      go Refused e =
+      go : (r : Option (ℕ × ℕ)) → read_number journal_groups journal_largest s at ≡ r → OneByte at v more
+      go None e =
           let none : (numbers_logged s at).found ≡ [] = ap (λ (ns : Numbers). ns.found) (numbers_none journal_groups journal_largest s at e) in
           let z : ◌≡◌ {A = ℕ} 0 (suc (length more)) = ap length (sym none ∙ is) in
           absurd (omega (arith, z))
-      go (Number w next) e =
+      go (Some (w, next)) e =
           let found : (numbers_logged s at).found ≡ w ∷ (numbers_logged s next).found
           = ap (λ (ns : Numbers). ns.found) (numbers_more journal_groups journal_largest s at w next e) in
           let both : w ∷ (numbers_logged s next).found ≡ v ∷ more = sym found ∙ is in
@@ -57,13 +56,13 @@ module _ (s : List ℕ) where
   -- kind and process
   pub record HeadBytes (at : ℕ) : Type 0 where
     pub inside : at + 1 < length s
-    pub kind : read_number journal_groups journal_largest s at ≡ Number (get_or s at 0) (at + 1)
-    pub process : read_number journal_groups journal_largest s (at + 1) ≡ Number (get_or s (at + 1) 0) (at + 2)
+    pub kind : read_number journal_groups journal_largest s at ≡ Some (get_or s at 0, at + 1)
+    pub process : read_number journal_groups journal_largest s (at + 1) ≡ Some (get_or s (at + 1) 0, at + 2)
 
   -- and the partner
   pub record PartnerByte (at : ℕ) : Type 0 where
     pub inside : at + 2 < length s
-    pub read : read_number journal_groups journal_largest s (at + 2) ≡ Number (get_or s (at + 2) 0) (at + 3)
+    pub read : read_number journal_groups journal_largest s (at + 2) ≡ Some (get_or s (at + 2) 0, at + 3)
     pub differs : get_or s (at + 2) 0 ≡ get_or s (at + 1) 0 → ⊥
 
   -- an event stands where its bytes do

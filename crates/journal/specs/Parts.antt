@@ -1,9 +1,8 @@
 -- What reading one event promises.
-use Rattle.std.specs.Prelude.{◌≡◌, true, List, ℕ, ◌≤◌, ◌<◌, length}
+use Rattle.std.specs.Prelude.{◌≡◌, true, List, ℕ, ◌≤◌, ◌<◌, length, Option, Some, None}
 use Rattle.book.specs.Bounds.{most_processes}
 use Rattle.journal.specs.declared.Event.{Event}
-use Rattle.journal.specs.declared.EventRead.{EventRead}
-use Rattle.journal.specs.declared.EventRead.TheVariants.{Found, Malformed}
+use Rattle.journal.specs.declared.Placed.{Placed}
 use Rattle.journal.specs.Events.{Begins, NoEvent, first_event, Events, events_in}
 use Rattle.journal.specs.Questions.{event_named}
 use Rattle.journal.specs.Calls.{numbers_logged, numbers_end}
@@ -19,14 +18,14 @@ pub record StandsAt (s : List ℕ) (at : ℕ) (e : Event) (next : ℕ) : Type 0 
   pub onward : at < next
   pub inside : next ≤ length s
 
-abbrev pub EventFound : List ℕ → ℕ → EventRead → Type 0
-EventFound s at (Found e next) = StandsAt s at e next
-EventFound s at Malformed = first_event (numbers_logged s at).found ≡ NoEvent
+abbrev pub EventFound : List ℕ → ℕ → Option Placed → Type 0
+EventFound s at (Some placed) = StandsAt s at placed.event placed.next
+EventFound s at None = first_event (numbers_logged s at).found ≡ NoEvent
 
 -- the same, where nothing is said if none was found
-abbrev pub ShortFound : List ℕ → ℕ → EventRead → Type 0
-ShortFound s at (Found e next) = StandsAt s at e next
-ShortFound s at Malformed = Unit {0}
+abbrev pub ShortFound : List ℕ → ℕ → Option Placed → Type 0
+ShortFound s at (Some placed) = StandsAt s at placed.event placed.next
+ShortFound s at None = Unit {0}
 
 -- an event of no more than sixteen processes stands at a place
 pub record NamedAt (s : List ℕ) (at : ℕ) : Type 0 where

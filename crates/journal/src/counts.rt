@@ -21,15 +21,13 @@ fn one_more(counts: [u16; 16], p: u16) -> [u16; 16]
     ensures { result ≡ one_more (p + 1) counts }
 {
     let mut next = counts;
-    let mut q: u16 = 0;
-    while q < 16 {
+    for q in 0..16u16 {
         let mut more = 0;
         if q == p {
             more = 1;
         }
         let i = q as usize;
         next[i] = counts[i] + more;
-        q += 1;
     }
     next
 }

@@ -8,7 +8,6 @@ ghost use Rattle.journal.specs.Running.{process_of};
 ghost use Rattle.journal.specs.Parts.{EventFound, ShortFound, NamedAt, StandsAt};
 
 use book::Process;
-use varint::Numeral;
 
 // The bounds of a journal's numbers: its own, whatever a book's may be.
 pub const GROUPS: u32 = 5;
@@ -31,15 +30,6 @@ pub struct Placed {
     pub next: usize,
 }
 
-// What stands at a place of a journal.
-#[derive(Clone, Copy)]
-pub enum EventRead {
-    // An event, and the place after it.
-    Found(Event, usize),
-    // No event (question 19).
-    Malformed,
-}
-
 // The process that an event names first, whose counts it changes.
 pub fn process_of(event: Event) -> Process
     ensures { result.0 ≡ process_of event }
@@ -52,82 +42,93 @@ pub fn process_of(event: Event) -> Process
 }
 
 // The event at a place, whatever bytes its numbers take: a number missing or not formed, an unknown kind, or a partner equal to the
-// process make it none.
-fn read_any_event(s: &[u8], at: usize) -> EventRead
+// process make it none (question 19).
+fn read_any_event(s: &[u8], at: usize) -> Option<Placed>
     ensures { EventFound s.now at result }
 {
-    let Numeral::Number(kind, second) = varint::read_number(s, at, GROUPS, LARGEST) else {
-        return EventRead::Malformed;
-    };
-    let Numeral::Number(process, third) = varint::read_number(s, second, GROUPS, LARGEST) else {
-        return EventRead::Malformed;
-    };
-    if kind == 3 {
-        return EventRead::Found(Event::Checkpointed(Process(process as usize)), third);
-    }
-    let Numeral::Number(partner, next) = varint::read_number(s, third, GROUPS, LARGEST) else {
-        return EventRead::Malformed;
-    };
-    if partner == process {
-        return EventRead::Malformed;
-    }
+    let (kind, second) = varint::read_number(s, at, GROUPS, LARGEST)?;
+    let (process, third) = varint::read_number(s, second, GROUPS, LARGEST)?;
     let by = Process(process as usize);
+    if kind == 3 {
+        return Some(Placed {
+            event: Event::Checkpointed(by),
+            next: third,
+        });
+    }
+    let (partner, next) = varint::read_number(s, third, GROUPS, LARGEST)?;
+    if partner == process {
+        return None;
+    }
     let with = Process(partner as usize);
     if kind == 1 {
-        return EventRead::Found(Event::Sent(by, with), next);
+        return Some(Placed {
+            event: Event::Sent(by, with),
+            next,
+        });
     }
     if kind == 2 {
-        return EventRead::Found(Event::Received(by, with), next);
+        return Some(Placed {
+            event: Event::Received(by, with),
+            next,
+        });
     }
-    EventRead::Malformed
+    None
 }
 
 // The same where three bytes are left and the event's numbers have one byte each, as they all have in a journal that passes; no event
 // found says nothing.
-fn read_short_event(s: &[u8], at: usize) -> EventRead
+fn read_short_event(s: &[u8], at: usize) -> Option<Placed>
     ensures { ShortFound s.now at result }
 {
     if s.len() < 3 {
-        return EventRead::Malformed;
+        return None;
     }
     if s.len() - 3 < at {
-        return EventRead::Malformed;
+        return None;
     }
     let kind = s[at];
     let process = s[at + 1];
     let partner = s[at + 2];
     if 128 <= process {
-        return EventRead::Malformed;
-    }
-    if kind == 3 {
-        return EventRead::Found(Event::Checkpointed(Process(process as usize)), at + 2);
-    }
-    if 128 <= partner {
-        return EventRead::Malformed;
-    }
-    if partner == process {
-        return EventRead::Malformed;
+        return None;
     }
     let by = Process(process as usize);
+    if kind == 3 {
+        return Some(Placed {
+            event: Event::Checkpointed(by),
+            next: at + 2,
+        });
+    }
+    if 128 <= partner {
+        return None;
+    }
+    if partner == process {
+        return None;
+    }
     let with = Process(partner as usize);
     if kind == 1 {
-        return EventRead::Found(Event::Sent(by, with), at + 3);
+        return Some(Placed {
+            event: Event::Sent(by, with),
+            next: at + 3,
+        });
     }
     if kind == 2 {
-        return EventRead::Found(Event::Received(by, with), at + 3);
+        return Some(Placed {
+            event: Event::Received(by, with),
+            next: at + 3,
+        });
     }
-    EventRead::Malformed
+    None
 }
 
-// The event at a place.
-pub fn read_event(s: &[u8], at: usize) -> EventRead
+// The event at a place, none where none is formed there (question 19).
+pub fn read_event(s: &[u8], at: usize) -> Option<Placed>
     ensures { EventFound s.now at result }
 {
-    let short = read_short_event(s, at);
-    match short {
-        EventRead::Found(event, next) => EventRead::Found(event, next),
-        EventRead::Malformed => read_any_event(s, at),
+    if let Some(placed) = read_short_event(s, at) {
+        return Some(placed);
     }
+    read_any_event(s, at)
 }
 
 // The event at a place of an accepted journal, whose numbers have one byte each.

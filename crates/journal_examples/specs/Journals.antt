@@ -1,9 +1,7 @@
 -- Journals tried (document 02, E1), in one list, and what each of them claims of the definitions that the contracts cite: K's examples
 -- 1 and 6, logged event by event, build the books known from document 01.
-use Rattle.std.specs.Prelude.{◌≡◌, List, [], ◌∷◌, ◌++◌, ℕ, zero, suc}
-use Rattle.book.specs.declared.Answer.{Answer}
-use Rattle.book.specs.declared.Answer.TheVariants as answer
-use Rattle.book.specs.InTurn.{answer_to}
+use Rattle.std.specs.Prelude.{◌≡◌, List, [], ◌∷◌, ◌++◌, ℕ, zero, suc, Result, Ok, Err}
+use Rattle.book.specs.InTurn.{answer_to, answer_with}
 use Rattle.book.specs.Write.{bytes_of}
 use Rattle.journal.specs.declared.Event.{Event}
 use Rattle.journal.specs.Calls.{journal_question, leading_n, events_logged, tables_built}
@@ -20,21 +18,21 @@ pub data Example : Type 0 where
   RefusedBy : List ℕ → ℕ → Example
 
 -- what taking a journal answers, into tables of zeros
-abbrev pub answered : List ℕ → Answer
+abbrev pub answered : List ℕ → Result (Unit {0}) ℕ
 answered journal = answer_to (journal_question journal blank blank)
 
--- with the bytes of the book in the tables beside it
-abbrev pub built : List ℕ → Answer × List ℕ
-built journal = (answered journal, bytes_of (tables_built journal blank blank))
+-- with the bytes of the book in the tables
+abbrev pub built : List ℕ → Result (List ℕ) ℕ
+built journal = answer_with (journal_question journal blank blank) (bytes_of (tables_built journal blank blank))
 
--- with its n and its events beside it
-abbrev pub logged : List ℕ → Answer × ℕ × List Event
-logged journal = (answered journal, leading_n journal, events_logged journal)
+-- with its n and its events
+abbrev pub logged : List ℕ → Result (ℕ × List Event) ℕ
+logged journal = answer_with (journal_question journal blank blank) (leading_n journal, events_logged journal)
 
 abbrev pub Holds : Example → Type 0
-Holds (Builds journal book) = built journal ≡ (answer.Accepted, book)
-Holds (HasEvents journal n events) = logged journal ≡ (answer.Accepted, n, events)
-Holds (RefusedBy journal question) = answered journal ≡ answer.Refused question
+Holds (Builds journal book) = built journal ≡ Ok book
+Holds (HasEvents journal n events) = logged journal ≡ Ok (n, events)
+Holds (RefusedBy journal question) = answered journal ≡ Err question
 
 -- all of a list hold
 infixr 5 ◌also◌

@@ -1,4 +1,5 @@
 -- The tables built are accepted, and are read again from their bytes.
+use Rattle.std.specs.Prelude.{Ok}
 use mathlib.Core.Path.{◌≡◌, sym, subst}
 use mathlib.Core.List.{List}
 use Prim.Native.Nat.{ℕ}
@@ -10,7 +11,6 @@ use Rattle.book.specs.Tables.{tables_of}
 use Rattle.book.specs.Accepted.{AreAccepted}
 use Rattle.book.specs.Read.{read_question, tables_read}
 use Rattle.book.specs.Write.{bytes_of, answer_to_write}
-use Rattle.book.specs.declared.WriteAnswer.TheVariants.{Length}
 use Rattle.round_trips.proofs.Writing.{write_given, answer_given, bytes_left}
 use Rattle.round_trips.proofs.Theorems.{never_too_long, written_then_read}
 use Rattle.shown.proofs.Theorems.{shown_is_accepted}
@@ -35,7 +35,7 @@ pub accepted_is_read : (tables : Tables) (into into' : List ℕ) → AreAccepted
     → (read_question (bytes_of tables) into into' ≡ 0) × (tables_read (bytes_of tables) into into' ≡ tables)
 accepted_is_read tables into into' are l l' =
     let out : List ℕ = bytes_of tables in
-    let answer : answer_to_write tables out ≡ Length (length out)
+    let answer : answer_to_write tables out ≡ Ok (length out)
     = answer_given tables out (write_given tables out are.passed (omega arith)) in
     let read = rw (bytes_left tables out (length out) answer) at
     (written_then_read tables out into into' (length out) are.sixteen l l' answer) in

@@ -1,11 +1,10 @@
 -- A journal has no more events than bytes.
+use Rattle.std.specs.Prelude.{Option, Some, None}
 use mathlib.Core.Bool.{Bool}
 use mathlib.Core.List.{List, [], ◌∷◌}
 use Prim.Native.Nat.{ℕ, zero, suc, ◌-◌, ◌≤◌}
 use native.Mathlib.Omega.{arith}
 use lib.ListN.{length, drop, length-drop}
-use Rattle.varint.specs.declared.Numeral.{Numeral}
-use Rattle.varint.specs.declared.Numeral.TheVariants.{Number, Refused}
 use Rattle.varint.specs.Number.{read_number}
 use Rattle.varint.specs.Sequence.{Numbers, scan, numbers_at}
 use Rattle.book.specs.Questions.{nothing_follows}
@@ -18,16 +17,16 @@ unfolding scan
 scan_few g l zero s at = omega arith
 scan_few g l (suc fuel) s at = go (read_number g l s at) (λ next. scan_few g l fuel s next)
   where
-    go : (r : Numeral) → ((next : ℕ) → length (scan g l fuel s next).found ≤ fuel)
+    go : (r : Option (ℕ × ℕ)) → ((next : ℕ) → length (scan g l fuel s next).found ≤ fuel)
         → length
         (elim r as (λ _. Numbers) [
-          | Number v next ↦ record { found = v ∷ (scan g l fuel s next).found; stop = (scan g l fuel s next).stop }
-          | Refused ↦ record { found = []; stop = at }
+          | Some (v, next) ↦ record { found = v ∷ (scan g l fuel s next).found; stop = (scan g l fuel s next).stop }
+          | None ↦ record { found = []; stop = at }
         ]
         ).found
         ≤ suc fuel
-    go (Number v next) ih = omega (arith, ih next)
-    go Refused ih = omega arith
+    go (Some (v, next)) ih = omega (arith, ih next)
+    go None ih = omega arith
 
 -- a number takes a byte at least
 pub numbers_few : (g l : ℕ) (s : List ℕ) (at : ℕ) → length (numbers_at g l s at).found ≤ length s - at

@@ -1,4 +1,5 @@
 -- The turns of the loop over a journal's events.
+use Rattle.std.specs.Prelude.{Result, Ok, Err}
 use mathlib.Core.Path.{◌≡◌, refl, sym, ap, ◌∙◌}
 use mathlib.Core.Bool.{Bool, true, false}
 use mathlib.Core.List.{List, [], ◌∷◌, ◌++◌, append-nil}
@@ -7,11 +8,14 @@ use native.Mathlib.Omega.{arith}
 use lib.ListN.{length, length-append, length-replicate}
 use lib.Seq.{append_snoc}
 use Rattle.lists.specs.Over.{tab}
+use Rattle.book.specs.declared.Question.{Question}
 use Rattle.book.specs.declared.Shape.{Shape}
 use Rattle.book.specs.Bounds.{most_processes, most_checkpoints, most_bytes}
 use Rattle.book.specs.Tables.{padded, shape_of}
 use Rattle.book.specs.InTurn.{◌then◌, ask}
+use Rattle.book.specs.Numbers.{number}
 use Rattle.book.proofs.Questions.{then_passed, then_refused}
+use Rattle.book.proofs.Refusals.{refused_by, is_refused, is_accepted, value_is, accepts}
 use Rattle.shown.proofs.Rows.{shape_shown}
 use Rattle.journal.specs.Counting.{checkpoint_count}
 use Rattle.journal.specs.declared.Event.{Event}
@@ -21,10 +25,7 @@ use Rattle.journal.specs.Built.{view_built, book_built}
 use Rattle.journal.specs.Calls.{numbers_logged}
 use Rattle.journal.specs.Parts.{StandsAt, events_from}
 use Rattle.journal.proofs.Reading.{events_more, events_broken, events_end}
-use Rattle.journal_reader.specs.declared.asking.Asked.{Asked}
-use Rattle.journal_reader.specs.declared.asking.Step.{Step}
-use Rattle.journal_reader.specs.Asking.{channels, Kept, none_underway, first_counts, HasRoom, EventTaken, refusal, EventsTaken}
-use Rattle.journal_reader.proofs.Answers.{answered_no, answered_yes}
+use Rattle.journal_reader.specs.Asking.{channels, Kept, none_underway, first_counts, HasRoom, total_after, EventTaken, EventsTaken}
 use Rattle.journal_reader.proofs.Kept.{kept_none, kept_sixteen, kept_fits}
 use Rattle.journal_reader.proofs.Taken.{total_within}
 
@@ -82,45 +83,46 @@ module _ (n : ℕ) (s : List ℕ) (at : ℕ) (underway counts : List ℕ) (total
   sofar_fits few h short = kept_fits n inv.before underway counts total inv.kept few inv.within inv.long (omega arith)
 
   -- no event stands before the end
-  pub sofar_broken : next < length s → first_event (numbers_logged s next).found ≡ NoEvent → (r : Asked) → r ≡ refusal 19
-      → EventsTaken n s at r
-  sofar_broken h none r er =
-      let is = inv.asked ∙ ap (question_of n inv.before) (events_broken s next h none) ∙ question_none n inv.before false in
-      answered_no _ _ 19 r er (sym is) (λ z. absurd (omega arith))
+  pub sofar_broken : next < length s → first_event (numbers_logged s next).found ≡ NoEvent → question_of n [] (events_from s at) ≡ 19
+  sofar_broken h none =
+      inv.asked ∙ ap (question_of n inv.before) (events_broken s next h none) ∙ question_none n inv.before false
 
   -- one stands there
-  module _ (e : Event) (after : ℕ) (stands : StandsAt s next e after) (step : Step) (underway' counts' : List ℕ)
-      (did : EventTaken n e underway counts total step underway' counts') where
+  module _ (e : Event) (after : ℕ) (stands : StandsAt s next e after) (r : Result ℕ Question) (underway' counts' : List ℕ)
+      (did : EventTaken n e underway counts total r underway' counts') where
     so_far : List Event
     so_far = inv.before ++ e ∷ []
 
-    asked_next : question_of n [] (events_from s at) ≡ (step.question then λ _. question_of n so_far (events_from s after))
+    asked_next : question_of n [] (events_from s at) ≡ (event_question n inv.before e then λ _. question_of n so_far (events_from s after))
     unfolding so_far
     asked_next =
         inv.asked
         ∙ ap (question_of n inv.before) (events_more s next e after stands)
         ∙ question_next n inv.before e (events_from s after).found (events_from s after).whole
-        ∙ ap (λ (q : ℕ). q then λ _. question_of n so_far (events_from s after)) (sym (did.asked inv.before inv.kept))
 
-    pub sofar_refused : (step.question ≡ 0 → ⊥) → (r : Asked) → r ≡ refusal step.question → EventsTaken n s at r
-    sofar_refused ne r er = answered_no _ _ step.question r er (sym (asked_next ∙ then_refused step.question _ ne)) ne
+    pub sofar_refused : (x : Question) → r ≡ Err x → question_of n [] (events_from s at) ≡ number x
+    sofar_refused x was =
+        let asked = did.asked inv.before inv.kept in
+        asked_next ∙ then_refused (event_question n inv.before e) _ (is_refused _ _ asked was) ∙ refused_by _ _ asked was
 
-    pub sofar_more : step.question ≡ 0 → length underway' ≡ length underway → Sofar n s at underway' counts' step.total after
+    pub sofar_more : (total' : ℕ) → r ≡ Ok total' → length underway' ≡ length underway → Sofar n s at underway' counts' total' after
     unfolding so_far
-    sofar_more z same =
-        let now = did.kept inv.before inv.kept z in
+    sofar_more total' was same =
+        let asked = did.asked inv.before inv.kept in
+        let z : event_question n inv.before e ≡ 0 = is_accepted _ _ asked was in
+        let is : total' ≡ total_after n inv.before e = value_is _ _ asked was in
+        rw is
         record {
           before = so_far;
-          kept = now;
-          asked = asked_next ∙ then_passed step.question _ z;
+          kept = did.kept inv.before inv.kept z;
+          asked = asked_next ∙ then_passed (event_question n inv.before e) _ z;
           listed = inv.listed
               ∙ ap (λ (es : Events). inv.before ++ es.found) (events_more s next e after stands)
               ∙ sym (append_snoc inv.before e (events_from s after).found);
           passed = omega (arith, length-append inv.before (e ∷ []), stands.onward, inv.passed);
           inside = stands.inside;
           long = same ∙ inv.long;
-          within =
-              omega (arith, now.in_all, total_within n inv.before e (sym (did.asked inv.before inv.kept) ∙ z));
+          within = total_within n inv.before e z;
         }
 
   -- the bytes end
@@ -136,7 +138,5 @@ module _ (n : ℕ) (s : List ℕ) (at : ℕ) (underway counts : List ℕ) (total
         let is : counts ≡ padded most_processes (tab n (λ j. checkpoint_count (suc j) (events_from s at).found)) = rw all inv.kept.checkpoints in
         (λ i. record { n = n; counts = is i }) ∙ sym (shape_shown (view_built n (events_from s at).found))
 
-    pub sofar_ended : EventsTaken n s at (record { question = 0; shape = record { n = n; counts = counts } })
-    sofar_ended =
-        answered_yes _ _ (record { n = n; counts = counts })
-        (inv.asked ∙ ap (question_of n inv.before) rest ∙ question_none n inv.before true) shaped
+    pub sofar_ended : EventsTaken n s at (Ok (record { n = n; counts = counts }))
+    sofar_ended = accepts (inv.asked ∙ ap (question_of n inv.before) rest ∙ question_none n inv.before true) shaped

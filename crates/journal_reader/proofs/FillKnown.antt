@@ -1,4 +1,5 @@
 -- What the filling pass knows when it begins.
+use Rattle.std.specs.Prelude.{Some}
 use mathlib.Core.Path.{◌≡◌, sym, ap, ◌∙◌}
 use mathlib.Core.List.{List}
 use Prim.Native.Nat.{ℕ, ◌+◌, ◌-◌, ◌≤◌}
@@ -7,7 +8,6 @@ use native.Mathlib.Omega.{arith}
 use lib.ListN.{length, get_or, replicate, length-replicate, get_or-eq_default}
 use lib.Seq.{sets, length-sets}
 use Rattle.lists.proofs.Over.{replicate_at}
-use Rattle.varint.specs.declared.Numeral.TheVariants.{Number}
 use Rattle.varint.specs.Number.{read_number}
 use Rattle.varint.proofs.Reading.{read_next}
 use Rattle.book.specs.declared.Shape.{Shape}
@@ -64,7 +64,7 @@ module _ (s sent received : List ℕ) (shape : Shape) (asked : journal_question 
       let events = journal_accepted s passed in
       rw is (omega (arith, shown_in_all (view_built (leading_n s) (events_logged s)) events.few, events.in_all))
 
-  pub to_fill : (v at : ℕ) → read_number journal_groups journal_largest s 0 ≡ Number v at → (first : List ℕ) → first ≡ first_rows shape.counts
+  pub to_fill : (v at : ℕ) → read_number journal_groups journal_largest s 0 ≡ Some (v, at) → (first : List ℕ) → first ≡ first_rows shape.counts
       → (sent' received' : List ℕ) → sent' ≡ sets sent 0 (replicate (entries - 0) 0) → received' ≡ sets received 0 (replicate (entries - 0) 0)
       → ToFill s at first sent' received'
   to_fill v at leads first starts sent' received' cleared_sent cleared_received =
@@ -72,7 +72,7 @@ module _ (s sent received : List ℕ) (shape : Shape) (asked : journal_question 
       record {
         short = all.short;
         passed = passed;
-        leads = leads ∙ ap (λ (k : ℕ). Number k at) (sym (leading_is s passed v at leads));
+        leads = leads ∙ ap (λ (k : ℕ). Some (k, at)) (sym (leading_is s passed v at leads));
         starts = starts ∙ ap (λ (shape : Shape). first_rows shape.counts) is;
         sent_clear = clear_of sent sent' all.sent_long cleared_sent;
         received_clear = clear_of received received' all.received_long cleared_received;

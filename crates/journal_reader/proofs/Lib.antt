@@ -1,7 +1,6 @@
 pub mod Padded
 pub mod Kept
 pub mod Taken
-pub mod Answers
 pub mod AskingLoop
 pub mod Journals
 pub mod FillColumns

@@ -1,5 +1,8 @@
 -- One event taken: the questions that the pass puts are those of the definition, and what is kept stays so.
-use mathlib.Core.Path.{◌≡◌, refl, sym, ap, ◌∙◌}
+use Rattle.std.specs.Prelude.{Result, Ok, Err}
+use Rattle.std.specs.Result.{IsErrAnd}
+use Rattle.std.proofs.lemmas.Result.{err_from_is_err_and}
+use mathlib.Core.Path.{◌≡◌, refl, sym, ap, subst, ◌∙◌}
 use mathlib.Core.Bool.{true, false}
 use mathlib.Core.List.{List, [], ◌∷◌, ◌++◌}
 use Prim.Native.Nat.{ℕ, zero, suc, ◌+◌, ◌≤◌, ◌<◌}
@@ -9,17 +12,20 @@ use lib.ListN.{get_or}
 use lib.Dec.{leb}
 use Rattle.lists.proofs.Tests.{and_both}
 use Rattle.book.specs.declared.Process.{Process}
+use Rattle.book.specs.declared.Question.{Question}
 use Rattle.book.specs.Bounds.{most_processes, most_checkpoints}
 use Rattle.book.specs.Names.{is_named}
 use Rattle.book.specs.InTurn.{◌then◌, ask}
+use Rattle.book.specs.Numbers.{number}
 use Rattle.book.proofs.Names.{named_in}
+use Rattle.book.proofs.Refusals.{number_positive, refused_by, is_accepted, refuses, accepts}
 use Rattle.book.proofs.Questions.{then_none, ask_yes, asked_yes}
 use Rattle.journal.specs.declared.Event.{Event}
 use Rattle.journal.specs.declared.Event.TheVariants.{Sent, Received, Checkpointed}
 use Rattle.journal.specs.Counting.{is_checkpoint, underway}
 use Rattle.journal.specs.Questions.{checkpoints_in_all, event_named, something_underway, event_question}
 use Rattle.journal.proofs.Counting.{underway_is}
-use Rattle.journal_reader.specs.Asking.{channel_place, HasChannels, Kept, HasRoom, are_named, receipt_question, checkpoint_event_question, SendingTaken, ReceiptTaken, CheckpointTaken, EventTaken}
+use Rattle.journal_reader.specs.Asking.{channel_place, HasChannels, Kept, HasRoom, are_named, receipt_question, checkpoint_event_question, SendingTaken, ReceiptTaken, CheckpointTaken, total_after, EventTaken}
 use Rattle.journal_reader.proofs.Kept.{total_stays, total_more, kept_sending, kept_receipt, kept_checkpoint}
 
 -- ---- questions in turn
@@ -123,41 +129,86 @@ module _ (n : ℕ) (before : List Event) (messages counts : List ℕ) (total : �
 
 -- ---- each kind
 
-module _ (n : ℕ) (messages counts : List ℕ) (total : ℕ) (few : n ≤ most_processes) (fit : HasRoom messages counts total) (q : ℕ) (e : Event) where
-  pub sending_taken : (process partner : Process) → e ≡ Sent process partner → (messages' : List ℕ)
-      → SendingTaken n process.0 partner.0 messages q messages'
-      → EventTaken n e messages counts total (record { question = q; total = total }) messages' counts
-  sending_taken process partner is messages' did =
-      rw is
+-- at the exit of a `?`
+pub handed : (r : Result ℕ Question) {Q : Question → Type 0} (x : Question) → IsErrAnd r Q → ((f : Question) → Q f → f ≡ x) → r ≡ Err x
+handed r x failed same = let p = err_from_is_err_and r failed in p.1 ∙ ap Err (same p.0 p.2)
+
+module _ (n : ℕ) (messages counts : List ℕ) (total : ℕ) (few : n ≤ most_processes) (fit : HasRoom messages counts total) (e : Event) where
+  -- what a kind of event asks is what is to be asked, whatever came before
+  abbrev Asks : ℕ → Type 0
+  Asks q = (before : List Event) → Kept n before messages counts total → q ≡ event_question n before e
+
+  event_refused : (q : ℕ) → Asks q → (x : Question) → q ≡ number x → (r : Result ℕ Question) → r ≡ Err x → (messages' counts' : List ℕ)
+      → EventTaken n e messages counts total r messages' counts'
+  event_refused q asks x is r was messages' counts' =
+      rw was
       record {
-        asked = λ before kept. did.asked ∙ sending_asked n before messages counts total kept process partner fit.in_all;
-        kept = λ before kept z.
-            let at = named_places n process.0 partner.0 few (asked_yes 9 (are_named n process.0 partner.0) (sym did.asked ∙ z)) in
-            rw (did.taken z) (kept_sending n before messages counts total kept process partner at.0 at.1 fit.messages.long);
+        asked = λ before kept. refuses x (total_after n before e) (sym (asks before kept) ∙ is);
+        kept = λ before kept z. absurd (omega (arith, asks before kept, number_positive x));
       }
 
-  pub receipt_taken : (process partner : Process) → e ≡ Received process partner → (messages' : List ℕ)
-      → ReceiptTaken n process.0 partner.0 messages q messages'
-      → EventTaken n e messages counts total (record { question = q; total = total }) messages' counts
-  receipt_taken process partner is messages' did =
-      rw is
+  event_taken : (q : ℕ) → Asks q → q ≡ 0 → (total' : ℕ) (messages' counts' : List ℕ)
+      → ((before : List Event) → Kept n before messages counts total → Kept n (before ++ e ∷ []) messages' counts' total')
+      → EventTaken n e messages counts total (Ok total') messages' counts'
+  event_taken q asks none total' messages' counts' now =
       record {
-        asked = λ before kept. did.asked ∙ receipt_asked n before messages counts total kept process partner fit.in_all few;
+        asked = λ before kept. accepts (sym (asks before kept) ∙ none) (now before kept).in_all;
         kept = λ before kept z.
-            let none = then_none (ask 10 (are_named n process.0 partner.0)) _ (sym did.asked ∙ z) in
-            let at = named_places n process.0 partner.0 few (asked_yes 9 (are_named n process.0 partner.0) none.0) in
-            let one = leb-true 1 _ (asked_yes 19 _ none.1) in
-            rw (did.taken z) (kept_receipt n before messages counts total kept process partner at.0 at.1 fit.messages.long one);
+            let k = now before kept in subst (Kept n (before ++ e ∷ []) messages' counts') k.in_all k;
       }
 
-  pub checkpoint_taken : (process : Process) → e ≡ Checkpointed process → (counts' : List ℕ) → CheckpointTaken n process.0 counts total q counts'
-      → EventTaken n e messages counts total (record { question = q; total = total + 1 }) messages counts'
-  checkpoint_taken process is counts' did =
-      rw is
-      record {
-        asked = λ before kept. did.asked ∙ checkpoint_asked n before messages counts total kept process;
-        kept = λ before kept z.
-            let none = then_none (ask 10 (is_named n process.0)) _ (sym did.asked ∙ z) in
-            let at = named_in n process.0 (asked_yes 9 (is_named n process.0) none.0) in
-            rw (did.taken z) (kept_checkpoint n before messages counts total kept process at.0 at.1 few);
-      }
+  module _ (process partner : Process) (is : e ≡ Sent process partner) (messages' : List ℕ) (r : Result (Unit {0}) Question)
+      (did : SendingTaken n process.0 partner.0 messages r messages') where
+    sending_asks : Asks (ask 10 (are_named n process.0 partner.0))
+    sending_asks before kept = rw is (sending_asked n before messages counts total kept process partner fit.in_all)
+
+    pub sending_refused : (x : Question) → r ≡ Err x → (r' : Result ℕ Question) → r' ≡ Err x
+        → EventTaken n e messages counts total r' messages' counts
+    sending_refused x was r' was' =
+        event_refused (ask 10 (are_named n process.0 partner.0)) sending_asks x (refused_by _ tt did.asked was) r' was' messages' counts
+
+    pub sending_taken : r ≡ Ok tt → EventTaken n e messages counts total (Ok total) messages' counts
+    sending_taken was =
+        let z : ask 10 (are_named n process.0 partner.0) ≡ 0 = is_accepted _ tt did.asked was in
+        let at = named_places n process.0 partner.0 few (asked_yes 9 (are_named n process.0 partner.0) z) in
+        event_taken (ask 10 (are_named n process.0 partner.0)) sending_asks z total messages' counts
+        (λ before kept.
+        rw (did.taken z, is) (kept_sending n before messages counts total kept process partner at.0 at.1 fit.messages.long))
+
+  module _ (process partner : Process) (is : e ≡ Received process partner) (messages' : List ℕ) (r : Result (Unit {0}) Question)
+      (did : ReceiptTaken n process.0 partner.0 messages r messages') where
+    receipt_asks : Asks (receipt_question n process.0 partner.0 messages)
+    receipt_asks before kept = rw is (receipt_asked n before messages counts total kept process partner fit.in_all few)
+
+    pub receipt_refused : (x : Question) → r ≡ Err x → (r' : Result ℕ Question) → r' ≡ Err x
+        → EventTaken n e messages counts total r' messages' counts
+    receipt_refused x was r' was' =
+        event_refused (receipt_question n process.0 partner.0 messages) receipt_asks x (refused_by _ tt did.asked was) r' was' messages' counts
+
+    pub receipt_taken : r ≡ Ok tt → EventTaken n e messages counts total (Ok total) messages' counts
+    receipt_taken was =
+        let z : receipt_question n process.0 partner.0 messages ≡ 0 = is_accepted _ tt did.asked was in
+        let none = then_none (ask 10 (are_named n process.0 partner.0)) _ z in
+        let at = named_places n process.0 partner.0 few (asked_yes 9 (are_named n process.0 partner.0) none.0) in
+        let one = leb-true 1 _ (asked_yes 19 _ none.1) in
+        event_taken (receipt_question n process.0 partner.0 messages) receipt_asks z total messages' counts
+        (λ before kept.
+        rw (did.taken z, is) (kept_receipt n before messages counts total kept process partner at.0 at.1 fit.messages.long one))
+
+  module _ (process : Process) (is : e ≡ Checkpointed process) (counts' : List ℕ) (r : Result (Unit {0}) Question)
+      (did : CheckpointTaken n process.0 counts total r counts') where
+    checkpoint_asks : Asks (checkpoint_event_question n process.0 total)
+    checkpoint_asks before kept = rw is (checkpoint_asked n before messages counts total kept process)
+
+    pub checkpoint_refused : (x : Question) → r ≡ Err x → (r' : Result ℕ Question) → r' ≡ Err x
+        → EventTaken n e messages counts total r' messages counts'
+    checkpoint_refused x was r' was' =
+        event_refused (checkpoint_event_question n process.0 total) checkpoint_asks x (refused_by _ tt did.asked was) r' was' messages counts'
+
+    pub checkpoint_taken : r ≡ Ok tt → EventTaken n e messages counts total (Ok (total + 1)) messages counts'
+    checkpoint_taken was =
+        let z : checkpoint_event_question n process.0 total ≡ 0 = is_accepted _ tt did.asked was in
+        let none = then_none (ask 10 (is_named n process.0)) _ z in
+        let at = named_in n process.0 (asked_yes 9 (is_named n process.0) none.0) in
+        event_taken (checkpoint_event_question n process.0 total) checkpoint_asks z (total + 1) messages counts'
+        (λ before kept. rw (did.taken z, is) (kept_checkpoint n before messages counts total kept process at.0 at.1 few))

@@ -1,20 +1,19 @@
 -- What the pass of questions keeps from event to event, and what it promises.
-use Rattle.std.specs.Prelude.{◌≡◌, Bool, ◌&&◌, List, [], ◌∷◌, ◌++◌, ℕ, suc, ◌+◌, ◌*◌, ◌-◌, ◌≤◌, ◌<◌, length, get_or, set, replicate, leb}
+use Rattle.std.specs.Prelude.{◌≡◌, Bool, ◌&&◌, List, [], ◌∷◌, ◌++◌, ℕ, suc, ◌+◌, ◌*◌, ◌-◌, ◌≤◌, ◌<◌, length, get_or, set, replicate, leb, Result}
 use Rattle.lists.specs.Over.{tab}
+use Rattle.book.specs.declared.Question.{Question}
 use Rattle.book.specs.declared.Shape.{Shape}
 use Rattle.book.specs.Bounds.{most_processes, most_checkpoints, most_bytes, row_width}
 use Rattle.book.specs.Names.{is_named}
 use Rattle.book.specs.Tables.{padded, shape_of}
-use Rattle.book.specs.Read.{no_shape}
-use Rattle.book.specs.InTurn.{◌then◌, ask, unless_refused}
+use Rattle.book.specs.InTurn.{◌then◌, ask, answer_to, answer_with}
+use Rattle.book.specs.Numbers.{by_number}
 use Rattle.journal.specs.declared.Event.{Event}
 use Rattle.journal.specs.Counting.{sendings, receipts, checkpoint_count}
 use Rattle.journal.specs.Questions.{checkpoints_in_all, event_question, events_question, journal_numbers_question}
 use Rattle.journal.specs.Built.{book_built}
 use Rattle.journal.specs.Calls.{numbers_logged, numbers_end, journal_book}
 use Rattle.journal.specs.Parts.{events_from}
-use Rattle.journal_reader.specs.declared.asking.Asked.{Asked}
-use Rattle.journal_reader.specs.declared.asking.Step.{Step}
 
 -- ---- what is kept
 
@@ -77,9 +76,9 @@ abbrev pub are_named : ℕ → ℕ → ℕ → Bool
 are_named n process partner = is_named n process && is_named n partner
 
 -- a sending was taken: one more is underway
-pub record SendingTaken (n process partner : ℕ) (underway₀ : List ℕ) (question : ℕ) (underway : List ℕ) : Type 0 where
-  pub asked : question ≡ ask 10 (are_named n process partner)
-  pub taken : question ≡ 0 → underway ≡ raised (channel_place process partner) underway₀
+pub record SendingTaken (n process partner : ℕ) (underway₀ : List ℕ) (answer : Result (Unit {0}) Question) (underway : List ℕ) : Type 0 where
+  pub asked : by_number answer ≡ answer_to (ask 10 (are_named n process partner))
+  pub taken : ask 10 (are_named n process partner) ≡ 0 → underway ≡ raised (channel_place process partner) underway₀
 
 -- the questions of a receipt and of a checkpoint, by what is kept
 abbrev pub receipt_question : ℕ → ℕ → ℕ → List ℕ → ℕ
@@ -90,40 +89,38 @@ abbrev pub checkpoint_event_question : ℕ → ℕ → ℕ → ℕ
 checkpoint_event_question n process total = ask 10 (is_named n process) then λ _. ask 5 (leb (total + 1) most_checkpoints)
 
 -- a receipt was taken: one less is underway, where there was one
-pub record ReceiptTaken (n process partner : ℕ) (underway₀ : List ℕ) (question : ℕ) (underway : List ℕ) : Type 0 where
-  pub asked : question ≡ receipt_question n process partner underway₀
-  pub taken : question ≡ 0 → underway ≡ lowered (channel_place partner process) underway₀
+pub record ReceiptTaken (n process partner : ℕ) (underway₀ : List ℕ) (answer : Result (Unit {0}) Question) (underway : List ℕ) : Type 0 where
+  pub asked : by_number answer ≡ answer_to (receipt_question n process partner underway₀)
+  pub taken : receipt_question n process partner underway₀ ≡ 0 → underway ≡ lowered (channel_place partner process) underway₀
 
 -- a checkpoint was taken: the process has one more
-pub record CheckpointTaken (n process : ℕ) (counts₀ : List ℕ) (total question : ℕ) (counts : List ℕ) : Type 0 where
-  pub asked : question ≡ checkpoint_event_question n process total
-  pub taken : question ≡ 0 → counts ≡ raised (process - 1) counts₀
+pub record CheckpointTaken (n process : ℕ) (counts₀ : List ℕ) (total : ℕ) (answer : Result (Unit {0}) Question) (counts : List ℕ) : Type 0 where
+  pub asked : by_number answer ≡ answer_to (checkpoint_event_question n process total)
+  pub taken : checkpoint_event_question n process total ≡ 0 → counts ≡ raised (process - 1) counts₀
+
+-- how many checkpoints there are after one event more
+abbrev pub total_after : ℕ → List Event → Event → ℕ
+total_after n before e = checkpoints_in_all n (before ++ e ∷ [])
 
 -- one event was taken, whatever events came before it
-pub record EventTaken (n : ℕ) (e : Event) (underway₀ counts₀ : List ℕ) (total₀ : ℕ) (step : Step) (underway counts : List ℕ) : Type 0 where
-  pub asked : (before : List Event) → Kept n before underway₀ counts₀ total₀ → step.question ≡ event_question n before e
+pub record EventTaken (n : ℕ) (e : Event) (underway₀ counts₀ : List ℕ) (total₀ : ℕ) (answer : Result ℕ Question) (underway counts : List ℕ) : Type 0 where
+  pub asked :
+      (before : List Event) → Kept n before underway₀ counts₀ total₀
+      → by_number answer ≡ answer_with (event_question n before e) (total_after n before e)
   pub kept :
-      (before : List Event) → Kept n before underway₀ counts₀ total₀ → step.question ≡ 0
-      → Kept n (before ++ e ∷ []) underway counts step.total
+      (before : List Event) → Kept n before underway₀ counts₀ total₀ → event_question n before e ≡ 0
+      → Kept n (before ++ e ∷ []) underway counts (total_after n before e)
 
 -- ---- all events
 
--- a refusal has zeros for a shape
-abbrev pub refusal : ℕ → Asked
-refusal question = record { question = question; shape = no_shape }
-
--- what is answered: the question, and the shape of the book where none fails
-abbrev pub answered : ℕ → Shape → Asked
-answered question shape = record { question = question; shape = unless_refused question no_shape shape }
-
 -- the events from a place on were taken
-abbrev pub EventsTaken : ℕ → List ℕ → ℕ → Asked → Type 0
-EventsTaken n s at r =
-    r
-    ≡ answered (events_question n [] (events_from s at).found (events_from s at).whole)
+abbrev pub EventsTaken : ℕ → List ℕ → ℕ → Result Shape Question → Type 0
+EventsTaken n s at answer =
+    by_number answer
+    ≡ answer_with (events_question n [] (events_from s at).found (events_from s at).whole)
     (shape_of (book_built n (events_from s at).found))
 
 -- a whole journal was taken, whatever tables are lent
-abbrev pub JournalTaken : List ℕ → Asked → Type 0
-JournalTaken s r =
-    r ≡ answered (journal_numbers_question (numbers_end s 0) (numbers_logged s 0).found) (shape_of (journal_book s))
+abbrev pub JournalTaken : List ℕ → Result Shape Question → Type 0
+JournalTaken s answer =
+    by_number answer ≡ answer_with (journal_numbers_question (numbers_end s 0) (numbers_logged s 0).found) (shape_of (journal_book s))

@@ -1,6 +1,5 @@
 -- What the functions of the filling pass promise one another.
-use Rattle.std.specs.Prelude.{◌≡◌, Bool, true, false, List, ℕ, ◌≤◌, ◌<◌, length, get_or}
-use Rattle.varint.specs.declared.Numeral.TheVariants.{Number}
+use Rattle.std.specs.Prelude.{◌≡◌, Bool, true, false, List, ℕ, ◌≤◌, ◌<◌, length, get_or, Some}
 use Rattle.varint.specs.Number.{read_number}
 use Rattle.book.specs.Bounds.{most_checkpoints, most_bytes, entries}
 use Rattle.book.specs.Tables.{shape_of}
@@ -31,7 +30,7 @@ pub record IsClear (table : List ℕ) : Type 0 where
 pub record ToFill (s : List ℕ) (at : ℕ) (first sent received : List ℕ) : Type 0 where
   pub short : length s ≤ most_bytes
   pub passed : journal_numbers_question (numbers_end s 0) (numbers_logged s 0).found ≡ 0
-  pub leads : read_number journal_groups journal_largest s 0 ≡ Number (leading_n s) at
+  pub leads : read_number journal_groups journal_largest s 0 ≡ Some (leading_n s, at)
   pub starts : first ≡ first_rows (shape_of (journal_book s)).counts
   pub sent_clear : IsClear sent
   pub received_clear : IsClear received

@@ -1,39 +1,16 @@
 // The pass that puts every question of a journal and changes nothing of the caller's.
 ghost use Rattle.std.specs.Prelude.{◌≡◌, ◌≤◌, ◌<◌, length};
 ghost use Rattle.book.specs.Bounds.{most_processes, most_bytes};
-ghost use Rattle.journal.specs.Calls.{journal_question, shape_built};
+ghost use Rattle.book.specs.InTurn.{answer_with};
+ghost use Rattle.book.specs.Numbers.{by_number};
+ghost use Rattle.book.specs.Tables.{shape_of};
+ghost use Rattle.journal.specs.Calls.{journal_question, journal_book};
 ghost use Rattle.journal_reader.specs.Asking.{ChannelFound, channels, HasChannels, are_named, none_underway, first_counts};
-ghost use Rattle.journal_reader.specs.Asking.{MessagesFit, CountsFit, HasRoom, refusal};
+ghost use Rattle.journal_reader.specs.Asking.{MessagesFit, CountsFit, HasRoom};
 ghost use Rattle.journal_reader.specs.Asking.{SendingTaken, ReceiptTaken, CheckpointTaken, EventTaken, EventsTaken, JournalTaken};
 
-use book::{Counter, Process, Shape};
-use journal::{Event, EventRead};
-use varint::Numeral;
-
-// What the pass finds: the question that fails first, 0 for none, and the shape of the book that the journal builds.
-#[derive(Clone, Copy)]
-pub struct Asked {
-    pub question: u32,
-    pub shape: Shape,
-}
-
-// How an event was passed: the question that it fails first, 0 for none, and how many checkpoints there are then.
-#[derive(Clone, Copy)]
-struct Step {
-    pub question: u32,
-    pub total: usize,
-}
-
-// A refusal has zeros for a shape.
-fn refused(question: u32) -> Asked
-    ensures { result ≡ refusal question }
-{
-    let shape = Shape {
-        n: 0,
-        counts: [0; 16],
-    };
-    Asked { question, shape }
-}
+use book::{Counter, Process, Question, Shape};
+use journal::Event;
 
 // Nothing underway, made by a function of its own, so that no proof meets its many entries one by one.
 fn none_underway() -> [Counter; 256]
@@ -48,10 +25,8 @@ fn first_counts(n: usize) -> [usize; 16]
     ensures { result ≡ first_counts n }
 {
     let mut counts = [0usize; 16];
-    let mut j = 0;
-    while j < n {
+    for j in 0..n {
         counts[j] = 1;
-        j += 1;
     }
     counts
 }
@@ -72,82 +47,94 @@ fn are_named(n: usize, process: Process, partner: Process) -> bool
 }
 
 // A message sent: one more is underway.
-fn take_sending(n: usize, process: Process, partner: Process, underway: &mut [Counter]) -> u32
+fn take_sending(
+    n: usize,
+    process: Process,
+    partner: Process,
+    underway: &mut [Counter],
+) -> Result<(), Question>
     requires { (n ≤ most_processes) × MessagesFit underway.old }
     ensures { SendingTaken n process.0 partner.0 underway.old result underway.new }
 {
     if !are_named(n, process, partner) {
-        return 10;
+        return Err(Question::Named);
     }
     let c = channel(process, partner);
     underway[c] += 1;
-    0
+    Ok(())
 }
 
 // A message received: it is no longer underway.
-fn take_receipt(n: usize, process: Process, partner: Process, underway: &mut [Counter]) -> u32
+fn take_receipt(
+    n: usize,
+    process: Process,
+    partner: Process,
+    underway: &mut [Counter],
+) -> Result<(), Question>
     requires { (n ≤ most_processes) × (length underway.old ≡ channels) }
     ensures { ReceiptTaken n process.0 partner.0 underway.old result underway.new }
 {
     if !are_named(n, process, partner) {
-        return 10;
+        return Err(Question::Named);
     }
     let c = channel(partner, process);
     if underway[c] == 0 {
-        return 20;
+        return Err(Question::Underway);
     }
     underway[c] -= 1;
-    0
+    Ok(())
 }
 
 // A checkpoint.
-fn take_checkpoint(n: usize, process: Process, counts: &mut [usize], total: usize) -> u32
+fn take_checkpoint(
+    n: usize,
+    process: Process,
+    counts: &mut [usize],
+    total: usize,
+) -> Result<(), Question>
     requires { (n ≤ most_processes) × CountsFit counts.old }
     ensures { CheckpointTaken n process.0 counts.old total result counts.new }
 {
     if !book::is_named(n, process.0) {
-        return 10;
+        return Err(Question::Named);
     }
     if book::MOST_CHECKPOINTS <= total {
-        return 5;
+        return Err(Question::Checkpoints);
     }
     let j = process.0 - 1;
     counts[j] += 1;
-    0
+    Ok(())
 }
 
-// The questions of one event, and what it changes.
+// The questions of one event, and what it changes; and how many checkpoints there are then.
 fn take_event(
     n: usize,
     event: Event,
     underway: &mut [Counter],
     counts: &mut [usize],
     total: usize,
-) -> Step
+) -> Result<usize, Question>
     requires { (n ≤ most_processes) × HasRoom underway.old counts.old total }
     ensures { EventTaken n event underway.old counts.old total result underway.new counts.new }
 {
     match event {
         Event::Sent(process, partner) => {
-            let question = take_sending(n, process, partner, underway);
-            Step { question, total }
+            take_sending(n, process, partner, underway)?;
+            Ok(total)
         }
         Event::Received(process, partner) => {
-            let question = take_receipt(n, process, partner, underway);
-            Step { question, total }
+            take_receipt(n, process, partner, underway)?;
+            Ok(total)
         }
         Event::Checkpointed(process) => {
-            let question = take_checkpoint(n, process, counts, total);
-            Step {
-                question,
-                total: total + 1,
-            }
+            take_checkpoint(n, process, counts, total)?;
+            Ok(total + 1)
         }
     }
 }
 
-// The events from a place on.
-fn take_events(s: &[u8], at: usize, n: usize) -> Asked
+// The events from a place on, and the shape of the book that they build.
+fn take_events(s: &[u8], at: usize, n: usize) -> Result<Shape, Question>
     requires { (n ≤ most_processes) × ((at ≤ length s.now) × (length s.now ≤ most_bytes)) }
     ensures { EventsTaken n s.now at result }
 {
@@ -156,52 +143,44 @@ fn take_events(s: &[u8], at: usize, n: usize) -> Asked
     let mut total = n;
     let mut next = at;
     while next < s.len() {
-        let EventRead::Found(event, after) = journal::read_event(s, next) else {
-            return refused(19);
+        let Some(placed) = journal::read_event(s, next) else {
+            return Err(Question::EventFormed);
         };
-        let step = take_event(n, event, &mut underway, &mut counts, total);
-        if step.question != 0 {
-            return refused(step.question);
-        }
-        total = step.total;
-        next = after;
+        total = take_event(n, placed.event, &mut underway, &mut counts, total)?;
+        next = placed.next;
     }
-    Asked {
-        question: 0,
-        shape: Shape { n, counts },
-    }
+    Ok(Shape { n, counts })
 }
 
 // Questions 3 and 4 of the leading n, then those of the events.
-fn take_journal(s: &[u8]) -> Asked
+fn take_journal(s: &[u8]) -> Result<Shape, Question>
     requires { length s.now ≤ most_bytes }
     ensures { JournalTaken s.now result }
 {
-    let Numeral::Number(n, at) = varint::read_number(s, 0, journal::GROUPS, journal::LARGEST) else {
-        return refused(3);
+    let Some((n, at)) = varint::read_number(s, 0, journal::GROUPS, journal::LARGEST) else {
+        return Err(Question::Number);
     };
     if n < 1 {
-        return refused(4);
+        return Err(Question::Processes);
     }
     if (book::MOST_PROCESSES as u64) < n {
-        return refused(4);
+        return Err(Question::Processes);
     }
     take_events(s, at, n as usize)
 }
 
-// Every question of a journal: the first that fails, 0 for none, and the shape of the book that it builds.
-pub fn question(bytes: &[u8], sent: &[Counter], received: &[Counter]) -> Asked
-    ensures question { result.question ≡ journal_question bytes.now sent.now received.now }
-    ensures shape { result.shape ≡ shape_built bytes.now sent.now received.now }
+// Every question of a journal, and the shape of the book that it builds.
+pub fn question(bytes: &[u8], sent: &[Counter], received: &[Counter]) -> Result<Shape, Question>
+    ensures { by_number result ≡ answer_with (journal_question bytes.now sent.now received.now) (shape_of (journal_book bytes.now)) }
 {
     if book::MOST_BYTES < bytes.len() {
-        return refused(1);
+        return Err(Question::BookBytes);
     }
     if sent.len() != book::ENTRIES {
-        return refused(2);
+        return Err(Question::TableEntries);
     }
     if received.len() != book::ENTRIES {
-        return refused(2);
+        return Err(Question::TableEntries);
     }
     take_journal(bytes)
 }

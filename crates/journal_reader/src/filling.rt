@@ -9,7 +9,6 @@ ghost use Rattle.journal_reader.specs.Filling.{is_checkpoint_event, IsRow, ToFil
 use book::{Counter, Shape};
 use journal::Event;
 use journal::counts::Counts;
-use varint::Numeral;
 
 fn is_checkpoint(event: Event) -> bool
     ensures { result ≡ is_checkpoint_event event }
@@ -26,10 +25,8 @@ fn put_row(table: &mut [Counter], row: usize, counters: [u16; 16])
     requires { IsRow row table.old }
     ensures { table.new ≡ sets table.old (row * row_width) counters }
 {
-    let mut p = 0;
-    while p < book::ROW_WIDTH {
+    for p in 0..book::ROW_WIDTH {
         table[row * book::ROW_WIDTH + p] = counters[p] as Counter;
-        p += 1;
     }
 }
 
@@ -84,8 +81,7 @@ pub fn fill(bytes: &[u8], shape: Shape, sent: &mut [Counter], received: &mut [Co
     book::clear(received, 0, book::ENTRIES);
     let rows = book::rows_of(shape);
     let first = rows.first;
-    let Numeral::Number(_, at) = varint::read_number(bytes, 0, journal::GROUPS, journal::LARGEST)
-    else {
+    let Some((_, at)) = varint::read_number(bytes, 0, journal::GROUPS, journal::LARGEST) else {
         return;
     };
     put_events(bytes, at, first, sent, received);

@@ -3,7 +3,6 @@
 // printed is the library's text; this program only reads and writes, and says on standard error where it could not.
 ghost use Rattle.std.specs.Prelude.{◌≡◌, ◌≤◌, length};
 
-use book::WriteAnswer;
 use std::io::{Read, Write};
 
 // One byte more than a book may have, so that a longer one is refused by question 1.
@@ -50,7 +49,7 @@ fn main(rt: HostRuntime) {
         return;
     }
     let mut text = [0u8; line_text::ROOM];
-    let WriteAnswer::Length(length) = line_text::line_text(&input[..n], &mut text) else {
+    let Ok(length) = line_text::line_text(&input[..n], &mut text) else {
         return;
     };
     if rt.stdout().write_all(&text[..length]).is_err() {

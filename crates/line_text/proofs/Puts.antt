@@ -9,9 +9,8 @@ use borrow.Author.Tests.{le-leb, lt-leb, leb-true}
 use lib.ListN.{length, take, get_or}
 use lib.Seq.{sets, length-take-le, get_or-take}
 use lib.Dec.{leb}
-use Rattle.book.specs.declared.WriteAnswer.TheVariants.{Length, Refused}
-use Rattle.book.specs.InTurn.{ask}
-use Rattle.book.specs.Write.{length_or}
+use Rattle.std.specs.Prelude.{Ok, Err}
+use Rattle.book.specs.InTurn.{ask, answer_with}
 use Rattle.lists.specs.Over.{tab}
 use Rattle.lists.proofs.Over.{tab_is}
 use Rattle.line_text.specs.Put.{put_answer, text_put}
@@ -24,25 +23,25 @@ tab_take bytes len h =
 -- ---- whether it fits
 
 module _ (bytes : List ℕ) (len : ℕ) (out : List ℕ) (inside : len ≤ length bytes) where
-  pub too_long : length out < len → (Refused 17 ≡ put_answer (take len bytes) out) × (out ≡ text_put (take len bytes) out)
-  unfolding put_answer text_put
+  pub too_long : length out < len → (Err 17 ≡ put_answer (take len bytes) out) × (out ≡ text_put (take len bytes) out)
+  unfolding put_answer answer_with text_put
   too_long h =
       let l = length-take-le len bytes inside in
       let e = lt-leb len (length out) h in
       (rw (l, e), rw (l, e))
 
-  pub fits : len ≤ length out → (Length len ≡ put_answer (take len bytes) out) × (sets out 0 (take len bytes) ≡ text_put (take len bytes) out)
-  unfolding put_answer text_put
+  pub fits : len ≤ length out → (Ok len ≡ put_answer (take len bytes) out) × (sets out 0 (take len bytes) ≡ text_put (take len bytes) out)
+  unfolding put_answer answer_with text_put
   fits h =
       let l = length-take-le len bytes inside in
       let e = le-leb len (length out) h in
       (rw (l, e), rw (l, e))
 
 -- a length that is answered lies within the buffer
-pub put_within : (text out : List ℕ) (n : ℕ) → put_answer text out ≡ Length n → n ≤ length out
-unfolding put_answer
+pub put_within : (text out : List ℕ) (n : ℕ) → put_answer text out ≡ Ok n → n ≤ length out
+unfolding put_answer answer_with
 put_within text out n = go (leb (length text) (length out)) refl
   where
-    go : (t : Bool) → leb (length text) (length out) ≡ t → length_or (ask 17 t) (length text) ≡ Length n → n ≤ length out
+    go : (t : Bool) → leb (length text) (length out) ≡ t → answer_with (ask 17 t) (length text) ≡ Ok n → n ≤ length out
     go true e is = let same : length text ≡ n = cc in omega (arith, leb-true (length text) (length out) e)
     go false e other = let z : ◌≡◌ {A = ℕ} 0 1 = cc in absurd (omega arith)

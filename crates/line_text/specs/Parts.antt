@@ -1,5 +1,8 @@
 -- What the functions that make a text promise: how it grows, and which bytes it holds.
-use Rattle.std.specs.Prelude.{◌≡◌, List, ◌++◌, ℕ, ◌+◌, ◌≤◌, length, take}
+use Rattle.std.specs.Prelude.{◌≡◌, List, ◌++◌, ℕ, ◌+◌, ◌≤◌, length, take, Result, Ok, Err}
+use Rattle.book.specs.declared.Question.{Question}
+use Rattle.book.specs.Numbers.{number}
+use Rattle.line_text.specs.Text.{refused_text}
 use Rattle.line_text.specs.declared.Text.{Text}
 
 -- a text with `more` bytes behind those that it had
@@ -12,3 +15,8 @@ pub record Holds (text : Text) (bytes : List ℕ) : Type 0 where
   pub first : take text.len text.bytes ≡ bytes
   pub long : text.len ≡ length bytes
   pub inside : text.len ≤ 512
+
+-- a text of just these bytes, or the question whose refusal they say
+abbrev pub Says : Result Text Question → List ℕ → Type 0
+Says (Ok text) bytes = Holds text bytes
+Says (Err question) bytes = refused_text (number question) ≡ bytes

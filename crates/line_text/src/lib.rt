@@ -2,13 +2,13 @@
 // The text that the program `line` prints (document 01), as a value that grows, and put into a lent buffer.
 ghost use Rattle.std.specs.Prelude.{◌≡◌, [], ◌∷◌, ◌+◌, ◌≤◌, ◌<◌, length, take};
 ghost use Rattle.std.proofs.lemmas.List.Edits.{sets};
-ghost use Rattle.book.specs.Lent.{lent};
+ghost use Rattle.book.specs.Numbers.{number, by_number};
 ghost use Rattle.line_text.specs.Text.{decimal, spaced, labelled, checkpoint_numbers, first_lines, found_text, refused_text};
 ghost use Rattle.line_text.specs.Put.{put_answer, text_put};
-ghost use Rattle.line_text.specs.Line.{table_inside, search_text, line_text};
-ghost use Rattle.line_text.specs.Parts.{Grown, Holds};
+ghost use Rattle.line_text.specs.Line.{table_inside, line_text};
+ghost use Rattle.line_text.specs.Parts.{Grown, Holds, Says};
 
-use book::{Answer, Checkpoint, Counter, Process, Shape, WriteAnswer};
+use book::{Checkpoint, Counter, Process, Question};
 
 // Room for the longest text: sixteen checkpoint numbers, four other numbers, each of at most 20 digits, and the words.
 pub const ROOM: usize = 512;
@@ -49,10 +49,8 @@ fn word(text: Text, w: &[u8]) -> Text
     ensures { Grown text result w.now }
 {
     let mut next = text;
-    let mut i = 0;
-    while i < w.len() {
+    for i in 0..w.len() {
         next = push(next, w[i]);
-        i += 1;
     }
     next
 }
@@ -91,10 +89,8 @@ fn checkpoint_numbers(text: Text, n: usize, set: [Checkpoint; 16]) -> Text
     ensures { Grown text result (checkpoint_numbers n set) }
 {
     let mut next = text;
-    let mut j = 0;
-    while j < n {
+    for j in 0..n {
         next = spaced(next, set[j].0 as u64);
-        j += 1;
     }
     next
 }
@@ -126,10 +122,10 @@ pub fn found_text(
 }
 
 // The text for a refused book.
-pub fn refused_text(question: u32) -> Text
-    ensures { Holds result (refused_text question) }
+pub fn refused_text(question: Question) -> Text
+    ensures { Holds result (refused_text (number question)) }
 {
-    labelled(empty(), b"refused", question as u64)
+    labelled(empty(), b"refused", question.number() as u64)
 }
 
 // The first bytes of a text copied to the start of a buffer that has room for them.
@@ -139,24 +135,22 @@ fn copy_text(text: Text, out: &mut [u8])
 {
     let bytes = text.bytes;
     let len = text.len;
-    let mut i = 0;
-    while i < len {
+    for i in 0..len {
         out[i] = bytes[i];
-        i += 1;
     }
 }
 
 // A text put at the start of a buffer, where it fits: question 17.
-pub fn put_text(text: Text, out: &mut [u8]) -> WriteAnswer
+pub fn put_text(text: Text, out: &mut [u8]) -> Result<usize, Question>
     requires { text.len ≤ 512 }
-    ensures answer { result ≡ put_answer (take text.len text.bytes) out.old }
+    ensures answer { by_number result ≡ put_answer (take text.len text.bytes) out.old }
     ensures bytes { out.new ≡ text_put (take text.len text.bytes) out.old }
 {
     if out.len() < text.len {
-        return WriteAnswer::Refused(17);
+        return Err(Question::Room);
     }
     copy_text(text, out);
-    WriteAnswer::Length(text.len)
+    Ok(text.len)
 }
 
 // A table, made by a function of its own, so that no proof meets its many entries one by one.
@@ -166,28 +160,30 @@ fn table_inside() -> [Counter; 4096]
     [0; 4096]
 }
 
-// The text of a search with purpose 3 from process 1.
-fn search_text(shape: Shape, sent: &[Counter], received: &[Counter]) -> Text
-    requires { shape.n ≤ 16 }
-    ensures { Holds result (search_text (lent shape sent.now received.now)) }
-{
-    let found = searches::search(shape, sent, received, Process(1), 3);
-    let set = found.set;
-    found_text(shape.n, set, found.newer, found.rounds, found.messages)
-}
-
-// The text of a book: what the program prints for it. Question: 17.
-pub fn line_text(bytes: &[u8], out: &mut [u8]) -> WriteAnswer
-    ensures answer { result ≡ put_answer (line_text bytes.now) out.old }
-    ensures bytes { out.new ≡ text_put (line_text bytes.now) out.old }
+// The text of a search on a book, with purpose 3 from process 1; or the question that refuses the book, and never the search.
+fn search_text(bytes: &[u8]) -> Result<Text, Question>
+    ensures { Says result (line_text bytes.now) }
 {
     let mut sent = table_inside();
     let mut received = table_inside();
-    let read = reader::read(bytes, &mut sent, &mut received);
-    let answer = read.answer;
-    let shape = read.shape;
-    match answer {
-        Answer::Refused(question) => put_text(refused_text(question), out),
-        Answer::Accepted => put_text(search_text(shape, &sent, &received), out),
+    let shape = reader::read(bytes, &mut sent, &mut received)?;
+    let found = searches::search(shape, &sent, &received, Process(1), 3)?;
+    Ok(found_text(
+        shape.n,
+        found.set,
+        found.newer,
+        found.rounds,
+        found.messages,
+    ))
+}
+
+// The text of a book: what the program prints for it. Question: 17.
+pub fn line_text(bytes: &[u8], out: &mut [u8]) -> Result<usize, Question>
+    ensures answer { by_number result ≡ put_answer (line_text bytes.now) out.old }
+    ensures bytes { out.new ≡ text_put (line_text bytes.now) out.old }
+{
+    match search_text(bytes) {
+        Ok(found) => put_text(found, out),
+        Err(question) => put_text(refused_text(question), out),
     }
 }

@@ -4,12 +4,16 @@ use mathlib.Core.Bool.{Bool, true, false}
 use mathlib.Core.List.{List}
 use Prim.Native.Nat.{ℕ, ◌≤◌}
 use native.Mathlib.Omega.{arith}
-use Rattle.book.specs.declared.Answer.{Answer}
-use Rattle.book.specs.declared.Answer.TheVariants.{Accepted}
-use Rattle.book.specs.InTurn.{◌then◌, ask, answer_to, unless_refused}
-use Rattle.book.proofs.Questions.{then_passed, then_refused, ask_yes, ask_no, answer_passed, kept_passed, kept_refused}
+use Rattle.std.specs.Prelude.{Result, Ok, Err}
+use Rattle.std.specs.Result.{IsErrAnd}
+use Rattle.std.proofs.lemmas.Result.{err_from_is_err_and}
+use Rattle.book.specs.declared.Question.{Question}
+use Rattle.book.specs.InTurn.{◌then◌, ask, answer_with}
+use Rattle.book.specs.Numbers.{number, by_number}
+use Rattle.book.proofs.Questions.{then_passed, then_refused, ask_yes, ask_no, kept_refused}
+use Rattle.book.proofs.Refusals.{number_positive, refuses, accepts}
 use Rattle.mail.specs.declared.Outgoing.{Outgoing}
-use Rattle.mail.specs.Outgoing.{room_question, no_lengths, sent_bytes, sent_lengths}
+use Rattle.mail.specs.Outgoing.{room_question, sent_bytes}
 
 -- ---- three tests
 
@@ -65,90 +69,56 @@ module _ (p q r s : ℕ) where
 
 -- ---- what a call that sends hands back
 
--- by its question: the answer, the state before or after, the lengths and the buffer
-abbrev pub Returned : {A : Type 0} → ℕ → A → A → Outgoing → List ℕ → Answer → A → List ℕ → List ℕ → Type 0
-Returned question before after o out answer state lengths bytes =
-    (answer ≡ answer_to question)
-    × ((state ≡ unless_refused question before after) × ((lengths ≡ sent_lengths question o) × (bytes ≡ sent_bytes question o out)))
+-- the question at the exit of a `?`
+pub err_is : {B : Type 0} {Q : Question → Type 0} (r : Result B Question) (e : Question) → IsErrAnd r Q → ((f : Question) → Q f → f ≡ e) → r ≡ Err e
+err_is {B} r e was same =
+    let p = err_from_is_err_and r was in
+    let g : Question → Result B Question = λ f. Err f in
+    p.1 ∙ ap g (same p.0 p.2)
 
--- a refusal: "a refusal returns only that number and changes nothing"
-returned_refused : {A : Type 0} (question found : ℕ) (before after : A) (o : Outgoing) (out : List ℕ) (answer : Answer) (state : A)
-    (lengths bytes : List ℕ) → question ≡ found → (found ≡ 0 → ⊥) → answer ≡ answer_to found → state ≡ before → lengths ≡ no_lengths → bytes ≡ out
-    → Returned question before after o out answer state lengths bytes
-returned_refused question found before after o out answer state lengths bytes e h a s l b =
-    let no_zero : (question ≡ 0 → ⊥) = λ z. h (sym e ∙ z) in (
-      a ∙ ap (λ (q : ℕ). answer_to q) (sym e),
-      (
-        s ∙ sym (kept_refused question before after no_zero),
-        (l ∙ sym (kept_refused question no_lengths _ no_zero), b ∙ sym (kept_refused question out _ no_zero)),
-      ),
-    )
+-- a question that refuses is one that fails
+fails : (e : Question) (q : ℕ) → q ≡ number e → q ≡ 0 → ⊥
+fails e q is z = let h : 1 ≤ number e = number_positive e in absurd (omega arith)
 
--- the room is asked last, so that where it is all that is asked, what was sent is what the call hands back
-returned_sent : {A : Type 0} (question : ℕ) (before after : A) (o : Outgoing) (out : List ℕ) (answer : Answer) (state : A) (lengths bytes : List ℕ)
-    → question ≡ room_question o out → room_question o out ≡ 0 → answer ≡ Accepted → state ≡ after
-    → lengths ≡ sent_lengths (room_question o out) o → bytes ≡ sent_bytes (room_question o out) o out
-    → Returned question before after o out answer state lengths bytes
-returned_sent question before after o out answer state lengths bytes e h a s l b =
-    let zero_now : question ≡ 0 = e ∙ h in (
-      a ∙ sym (answer_passed question zero_now),
-      (
-        s ∙ sym (kept_passed question before after zero_now),
-        (l ∙ ap (λ (q : ℕ). sent_lengths q o) (sym e), b ∙ ap (λ (q : ℕ). sent_bytes q o out) (sym e)),
-      ),
-    )
-
--- where the room does not suffice the buffer stays as it was
-not_sent : (o : Outgoing) (out bytes : List ℕ) → (room_question o out ≡ 0 → ⊥) → bytes ≡ sent_bytes (room_question o out) o out → bytes ≡ out
-not_sent o out bytes h b = b ∙ kept_refused (room_question o out) out _ h
-
--- ---- the answer of a call that puts three questions and then that of the room, by the question that fails
-
--- what stands beside a refusal
-abbrev pub Told : {A : Type 0} → A → ℕ → Answer → A → List ℕ → Type 0
-Told before found answer state lengths = (answer ≡ answer_to found) × ((state ≡ before) × (lengths ≡ no_lengths))
-
--- the questions, the state that stands beside a refusal, the one after the step and what it sends, and the buffer
-module _ {A : Type 0} (p q r : ℕ) (before after : A) (o : Outgoing) (out : List ℕ) where
+-- the questions of a call that puts three and then that of the room, the value that stands beside no refusal, what its step
+-- sends, and the buffer
+module _ {B : Type 0} (p q r : ℕ) (value : B) (o : Outgoing) (out : List ℕ) where
   abbrev room : ℕ
   room = room_question o out
 
   abbrev question : ℕ
   question = p then λ _. q then λ _. r then λ _. room
 
-  abbrev pub Answered : Answer → A → List ℕ → List ℕ → Type 0
-  Answered answer state lengths bytes = Returned question before after o out answer state lengths bytes
+  abbrev pub Answered : Result B Question → List ℕ → Type 0
+  Answered answer bytes = (by_number answer ≡ answer_with question value) × (bytes ≡ sent_bytes question o out)
 
-  stopped : (found : ℕ) (answer : Answer) (state : A) (lengths bytes : List ℕ) → question ≡ found → (found ≡ 0 → ⊥)
-      → Told before found answer state lengths → bytes ≡ out → Answered answer state lengths bytes
-  stopped found answer state lengths bytes e h told b =
-      returned_refused question found before after o out answer state lengths bytes e h told.0 told.1.0 told.1.1 b
+  -- "a refusal returns only that number and changes nothing"
+  stopped : (answer : Result B Question) (e : Question) (bytes : List ℕ) → answer ≡ Err e → question ≡ number e → bytes ≡ out → Answered answer bytes
+  stopped answer e bytes a is b = (
+    rw a (refuses e value is),
+    b ∙ sym (kept_refused question out _ (fails e question is)),
+  )
 
-  module _ (found : ℕ) (answer : Answer) (state : A) (lengths : List ℕ) (fails : found ≡ 0 → ⊥)
-      (told : Told before found answer state lengths) where
-    pub at_first : found ≡ p → Answered answer state lengths out
-    at_first e = stopped found answer state lengths out (by_first p q r room (λ z. fails (e ∙ z)) ∙ sym e) fails told refl
+  module _ (answer : Result B Question) (e : Question) (is : answer ≡ Err e) where
+    pub at_first : p ≡ number e → Answered answer out
+    at_first k = stopped answer e out is (by_first p q r room (fails e p k) ∙ k) refl
 
-    pub at_second : p ≡ 0 → found ≡ q → Answered answer state lengths out
-    at_second h e = stopped found answer state lengths out (by_second p q r room h (λ z. fails (e ∙ z)) ∙ sym e) fails told refl
+    pub at_second : p ≡ 0 → q ≡ number e → Answered answer out
+    at_second h k = stopped answer e out is (by_second p q r room h (fails e q k) ∙ k) refl
 
-    pub at_third : p ≡ 0 → q ≡ 0 → found ≡ r → Answered answer state lengths out
-    at_third h k e = stopped found answer state lengths out (by_third p q r room h k (λ z. fails (e ∙ z)) ∙ sym e) fails told refl
+    pub at_third : p ≡ 0 → q ≡ 0 → r ≡ number e → Answered answer out
+    at_third h l k = stopped answer e out is (by_third p q r room h l (fails e r k) ∙ k) refl
 
-  -- the messages are sent if there is room
-  module _ (first : p ≡ 0) (second : q ≡ 0) (third : r ≡ 0) (found : ℕ) (bytes : List ℕ) (is_room : found ≡ room)
-      (is_sent : bytes ≡ sent_bytes room o out) where
-    pub at_room : (answer : Answer) (state : A) (lengths : List ℕ) → (found ≡ 0 → ⊥) → Told before found answer state lengths
-        → Answered answer state lengths bytes
-    at_room answer state lengths h told =
-        stopped found answer state lengths bytes (by_last p q r room first second third ∙ sym is_room) h told
-        (not_sent o out bytes (λ z. h (is_room ∙ z)) is_sent)
+    -- where the room does not suffice the buffer stays as it was
+    pub at_room : (bytes : List ℕ) → p ≡ 0 → q ≡ 0 → r ≡ 0 → room ≡ number e → bytes ≡ sent_bytes room o out → Answered answer bytes
+    at_room bytes h l m k b =
+        stopped answer e bytes is (by_last p q r room h l m ∙ k)
+        (b ∙ kept_refused room out _ (fails e room k))
 
-    pub at_end : (lengths : List ℕ) → found ≡ 0 → lengths ≡ sent_lengths room o → Answered Accepted after lengths bytes
-    at_end lengths z l =
-        returned_sent question before after o out Accepted after lengths bytes (by_last p q r room first second third)
-        (sym is_room ∙ z)
-        refl
-        refl
-        l
-        is_sent
+  -- the messages are sent
+  pub at_end : (v : B) (bytes : List ℕ) → p ≡ 0 → q ≡ 0 → r ≡ 0 → room ≡ 0 → v ≡ value → bytes ≡ sent_bytes room o out → Answered (Ok v) bytes
+  at_end v bytes h l m k is b =
+      let last : question ≡ room = by_last p q r room h l m in (
+        accepts (last ∙ k) is,
+        b ∙ ap (λ (x : ℕ). sent_bytes x o out) (sym last),
+      )

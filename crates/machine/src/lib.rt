@@ -28,7 +28,7 @@ pub fn participant_named(n: usize, me: Process, initiator: Process) -> bool
     if !book::is_named(n, initiator.0) {
         return false;
     }
-    me.0 != initiator.0
+    me != initiator
 }
 
 // Is it a participant? Both count from 0.
@@ -45,10 +45,8 @@ pub fn participants(n: usize, me: Process) -> [bool; 16]
 {
     let mut flags = [false; 16];
     let own = me.0 - 1;
-    let mut p = 0;
-    while p < book::MOST_PROCESSES {
+    for p in 0..book::MOST_PROCESSES {
         flags[p] = is_participant(n, own, p);
-        p += 1;
     }
     flags
 }
@@ -57,12 +55,10 @@ pub fn participants(n: usize, me: Process) -> [bool; 16]
 pub fn someone(flags: [bool; 16]) -> bool
     ensures { result ≡ someone flags }
 {
-    let mut p = 0;
-    while p < book::MOST_PROCESSES {
+    for p in 0..book::MOST_PROCESSES {
         if flags[p] {
             return true;
         }
-        p += 1;
     }
     false
 }
@@ -73,12 +69,10 @@ pub fn only_participants(n: usize, me: Process, flags: [bool; 16]) -> bool
     ensures { result ≡ only_participants n (me.0 - 1) flags }
 {
     let own = me.0 - 1;
-    let mut p = 0;
-    while p < book::MOST_PROCESSES {
+    for p in 0..book::MOST_PROCESSES {
         if flags[p] && !is_participant(n, own, p) {
             return false;
         }
-        p += 1;
     }
     true
 }
@@ -90,10 +84,8 @@ pub fn without(flags: [bool; 16], j: Process) -> [bool; 16]
 {
     let mut next = [false; 16];
     let own = j.0 - 1;
-    let mut p = 0;
-    while p < book::MOST_PROCESSES {
+    for p in 0..book::MOST_PROCESSES {
         next[p] = flags[p] && p != own;
-        p += 1;
     }
     next
 }
@@ -108,10 +100,8 @@ pub fn sent_row(rows: TableRows, sent: &[Counter], j: Process, r: Checkpoint) ->
     let place = j.0 - 1;
     let first = firsts[place];
     let mut entries = [Count(0); 16];
-    let mut p = 0;
-    while p < book::MOST_PROCESSES {
+    for p in 0..book::MOST_PROCESSES {
         entries[p] = book::counter(sent, first, r, Process(p + 1));
-        p += 1;
     }
     entries
 }
@@ -130,10 +120,8 @@ fn for_each(news: [Count; 16]) -> [Count; 256]
     ensures { result ≡ as_matrix (λ p k. counters news k) }
 {
     let mut all = [Count(0); 256];
-    let mut i = 0;
-    while i < matrix::ENTRIES {
+    for i in 0..matrix::ENTRIES {
         all[i] = news[i % book::ROW_WIDTH];
-        i += 1;
     }
     all
 }

@@ -1,4 +1,5 @@
 -- The bytes of a head and of a message in three parts each, and those of the messages of a step in sixteen.
+use Rattle.std.specs.Prelude.{Result, Ok, Err}
 use mathlib.Core.Path.{◌≡◌, refl, ap}
 use mathlib.Core.Bool.{true, false}
 use mathlib.Core.List.{List, [], ◌∷◌, ◌++◌, append-nil}
@@ -11,12 +12,16 @@ use lib.Seq.{sets}
 use Rattle.varint.specs.Number.{encode}
 use Rattle.varint.specs.Sequence.{encode_all}
 use Rattle.varint.proofs.Sequence.{encode_all_append}
+use Rattle.book.specs.declared.Question.{Question}
+use Rattle.book.specs.declared.Question.TheVariants.{Room}
+use Rattle.book.specs.InTurn.{answer_with}
+use Rattle.book.specs.Numbers.{by_number}
 use Rattle.consistency.specs.Known.{counters}
 use Rattle.message.specs.declared.Head.{Head}
 use Rattle.message.specs.declared.Message.{Message}
 use Rattle.message.specs.Layout.{pairs_to, pair_count, head_numbers, message_bytes}
 use Rattle.mail.specs.declared.Outgoing.{Outgoing}
-use Rattle.mail.specs.Outgoing.{goes_to, message_to, bytes_to, mail_to, mail, lengths, no_lengths, room_question, sent_bytes, sent_lengths}
+use Rattle.mail.specs.Outgoing.{goes_to, message_to, bytes_to, mail_to, mail, lengths, room_question, sent_bytes}
 use Rattle.mail.proofs.Turns.{Parts, Three}
 use Rattle.mail.proofs.Pairs.{pair_bytes}
 
@@ -54,13 +59,15 @@ module _ (o : Outgoing) (p : ℕ) where
 -- ---- the answer
 
 module _ (o : Outgoing) (out : List ℕ) where
-  abbrev pub Answered : ℕ → List ℕ → List ℕ → Type 0
-  Answered question noted out' =
-      (question ≡ room_question o out) × ((noted ≡ sent_lengths (room_question o out) o) × (out' ≡ sent_bytes (room_question o out) o out))
+  abbrev pub Answered : Result (List ℕ) Question → List ℕ → Type 0
+  Answered answer out' =
+      (by_number answer ≡ answer_with (room_question o out) (lengths o)) × (out' ≡ sent_bytes (room_question o out) o out)
 
-  pub no_room : {size : ℕ} → size ≡ length (mail o) → length out < size → Answered 17 no_lengths out
-  no_room e h = rw (lt-leb (length (mail o)) (length out) (omega arith)) (refl, (refl, refl))
+  pub no_room : {size : ℕ} → size ≡ length (mail o) → length out < size → Answered (Err Room) out
+  unfolding answer_with
+  no_room e h = rw (lt-leb (length (mail o)) (length out) (omega arith)) (refl, refl)
 
   pub sent : {size : ℕ} {noted out' : List ℕ} → size ≡ length (mail o) → size ≤ length out
-      → (noted ≡ lengths o) × (out' ≡ sets out 0 (mail o)) → Answered 0 noted out'
-  sent e h w = rw (le-leb (length (mail o)) (length out) (omega arith)) (refl, (w.0, w.1))
+      → (noted ≡ lengths o) × (out' ≡ sets out 0 (mail o)) → Answered (Ok noted) out'
+  unfolding answer_with
+  sent e h w = rw (le-leb (length (mail o)) (length out) (omega arith)) (ap (λ (l : List ℕ). Ok l) w.0, w.1)

@@ -3,12 +3,14 @@
 ghost use Rattle.std.specs.Prelude.{◌≡◌, ◌+◌, ◌≤◌, ◌<◌, length};
 ghost use Rattle.std.proofs.lemmas.List.Edits.{sets};
 ghost use Rattle.varint.specs.Sequence.{encode_all};
+ghost use Rattle.book.specs.InTurn.{answer_with};
+ghost use Rattle.book.specs.Numbers.{by_number};
 ghost use Rattle.consistency.specs.Known.{counters};
 ghost use Rattle.message.specs.Layout.{pairs_to, head_numbers, message_bytes};
-ghost use Rattle.mail.specs.Outgoing.{message_to, bytes_to, mail, lengths, room_question, sent_bytes, sent_lengths};
+ghost use Rattle.mail.specs.Outgoing.{message_to, bytes_to, mail, lengths, room_question, sent_bytes};
 ghost use Rattle.mail.specs.Sizes.{head_most, pairs_most, message_most};
 
-use book::{Count, Process};
+use book::{Count, Process, Question};
 use message::{Head, Message};
 
 // The messages of one step: one head for all, who gets one, and for each of them a row of news.
@@ -17,13 +19,6 @@ pub struct Outgoing {
     pub head: Head,
     pub to: [bool; 16],
     pub news: [Count; 256],
-}
-
-// Whether the messages fit (0 or question 17), and the length for each process.
-#[derive(Clone, Copy)]
-pub struct Sent {
-    pub question: u32,
-    pub lengths: [usize; 16],
 }
 
 // How many bytes the numbers of a head take. The bounds on sizes are there for the sums to fit.
@@ -41,13 +36,11 @@ fn pairs_size(news: [Count; 16]) -> usize
     ensures upper_bound { result ≤ pairs_most }
 {
     let mut size = 0;
-    let mut p = 0;
-    while p < book::MOST_PROCESSES {
+    for p in 0..book::MOST_PROCESSES {
         let counter = news[p];
         if counter.0 != matrix::NOT_KNOWN {
             size += varint::size_of((p + 1) as u64) + varint::size_of(book::wide(counter.0));
         }
-        p += 1;
     }
     size
 }
@@ -81,14 +74,12 @@ fn put_pairs(news: [Count; 16], out: &mut [u8], at: usize) -> usize
     ensures out_after { out.new ≡ sets out.old at (encode_all (pairs_to 16 (counters news))) }
 {
     let mut next = at;
-    let mut p = 0;
-    while p < book::MOST_PROCESSES {
+    for p in 0..book::MOST_PROCESSES {
         let counter = news[p];
         if counter.0 != matrix::NOT_KNOWN {
             next = varint::put_number((p + 1) as u64, out, next);
             next = varint::put_number(book::wide(counter.0), out, next);
         }
-        p += 1;
     }
     next
 }
@@ -135,10 +126,8 @@ fn mail_size(outgoing: Outgoing) -> usize
     ensures { result ≡ length (mail outgoing) }
 {
     let mut size = 0;
-    let mut p = 0;
-    while p < book::MOST_PROCESSES {
+    for p in 0..book::MOST_PROCESSES {
         size += size_to(outgoing, p);
-        p += 1;
     }
     size
 }
@@ -164,33 +153,24 @@ fn put_mail(outgoing: Outgoing, out: &mut [u8]) -> [usize; 16]
 {
     let mut lengths = [0usize; 16];
     let mut at = 0;
-    let mut p = 0;
-    while p < book::MOST_PROCESSES {
+    for p in 0..book::MOST_PROCESSES {
         let size = put_to(outgoing, p, &mut out[at..]);
         lengths[p] = size;
         at += size;
-        p += 1;
     }
     lengths
 }
 
-// The messages of a step, if they fit (question 17): rising by receiver, from the buffer's start.
-pub fn send(outgoing: Outgoing, out: &mut [u8]) -> Sent
-    ensures question_value { result.question ≡ room_question outgoing out.old }
-    ensures lengths_value { result.lengths ≡ sent_lengths (room_question outgoing out.old) outgoing }
+// The messages of a step, if they fit (question 17): rising by receiver, from the buffer's start. The answer is the length for
+// each process.
+pub fn send(outgoing: Outgoing, out: &mut [u8]) -> Result<[usize; 16], Question>
+    ensures answer { by_number result ≡ answer_with (room_question outgoing out.old) (lengths outgoing) }
     ensures out_after { out.new ≡ sent_bytes (room_question outgoing out.old) outgoing out.old }
 {
     let size = mail_size(outgoing);
     if out.len() < size {
-        let lengths = [0usize; 16];
-        return Sent {
-            question: 17,
-            lengths,
-        };
+        return Err(Question::Room);
     }
     let lengths = put_mail(outgoing, out);
-    Sent {
-        question: 0,
-        lengths,
-    }
+    Ok(lengths)
 }

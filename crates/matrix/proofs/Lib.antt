@@ -1,4 +1,5 @@
 pub mod Rows
+pub mod Equal
 pub mod RowPut
 pub mod Sweep
 pub mod Zeros

@@ -23,10 +23,8 @@ pub fn row(matrix: [Count; 256], j: Process) -> [Count; 16]
 {
     let mut entries = [Count(0); 16];
     let first = (j.0 - 1) * book::ROW_WIDTH;
-    let mut p = 0;
-    while p < book::MOST_PROCESSES {
+    for p in 0..book::MOST_PROCESSES {
         entries[p] = matrix[first + p];
-        p += 1;
     }
     entries
 }
@@ -38,10 +36,8 @@ pub fn column(matrix: [Count; 256], p: Process) -> [Count; 16]
 {
     let mut entries = [Count(0); 16];
     let across = p.0 - 1;
-    let mut j = 0;
-    while j < book::MOST_PROCESSES {
+    for j in 0..book::MOST_PROCESSES {
         entries[j] = matrix[j * book::ROW_WIDTH + across];
-        j += 1;
     }
     entries
 }
@@ -53,10 +49,8 @@ pub fn with_row(matrix: [Count; 256], j: Process, entries: [Count; 16]) -> [Coun
 {
     let mut next = matrix;
     let first = (j.0 - 1) * book::ROW_WIDTH;
-    let mut p = 0;
-    while p < book::ROW_WIDTH {
+    for p in 0..book::ROW_WIDTH {
         next[first + p] = entries[p];
-        p += 1;
     }
     next
 }
@@ -86,10 +80,8 @@ pub fn not_known_row(n: usize, j: Process) -> [Count; 16]
 {
     let mut entries = [Count(0); 16];
     let down = j.0 - 1;
-    let mut p = 0;
-    while p < book::MOST_PROCESSES {
+    for p in 0..book::MOST_PROCESSES {
         entries[p] = not_known_at(n, down, p);
-        p += 1;
     }
     entries
 }
@@ -99,10 +91,8 @@ pub fn not_known_matrix(n: usize) -> [Count; 256]
     ensures { result ≡ not_known_matrix n }
 {
     let mut entries = [Count(0); 256];
-    let mut i = 0;
-    while i < ENTRIES {
+    for i in 0..ENTRIES {
         entries[i] = not_known_at(n, i / book::ROW_WIDTH, i % book::ROW_WIDTH);
-        i += 1;
     }
     entries
 }
@@ -111,11 +101,7 @@ pub fn not_known_matrix(n: usize) -> [Count; 256]
 fn differing(now: Count, held: Count) -> Count
     ensures { result.0 ≡ differing now.0 held.0 }
 {
-    if now.0 == held.0 {
-        Count(NOT_KNOWN)
-    } else {
-        now
-    }
+    if now == held { Count(NOT_KNOWN) } else { now }
 }
 
 // The entry after news of it.
@@ -130,10 +116,8 @@ pub fn diff(now: [Count; 16], held: [Count; 16]) -> [Count; 16]
     ensures { result ≡ diff now held }
 {
     let mut news = [Count(0); 16];
-    let mut p = 0;
-    while p < book::MOST_PROCESSES {
+    for p in 0..book::MOST_PROCESSES {
         news[p] = differing(now[p], held[p]);
-        p += 1;
     }
     news
 }
@@ -143,10 +127,8 @@ pub fn patch(held: [Count; 16], news: [Count; 16]) -> [Count; 16]
     ensures { result ≡ patch held news }
 {
     let mut next = [Count(0); 16];
-    let mut p = 0;
-    while p < book::MOST_PROCESSES {
+    for p in 0..book::MOST_PROCESSES {
         next[p] = changed(held[p], news[p]);
-        p += 1;
     }
     next
 }
@@ -155,29 +137,18 @@ pub fn patch(held: [Count; 16], news: [Count; 16]) -> [Count; 16]
 pub fn same(a: [Count; 16], b: [Count; 16]) -> bool
     ensures { result ≡ same a b }
 {
-    let mut p = 0;
-    while p < book::MOST_PROCESSES {
-        let x = a[p];
-        let y = b[p];
-        if x.0 != y.0 {
-            return false;
-        }
-        p += 1;
-    }
-    true
+    a == b
 }
 
 // Are the entries from a place on zero?
 fn zero_from(from: usize, a: [Count; 16]) -> bool
     ensures { result ≡ zero_from from a }
 {
-    let mut p = from;
-    while p < book::MOST_PROCESSES {
+    for p in from..book::MOST_PROCESSES {
         let x = a[p];
         if x.0 != 0 {
             return false;
         }
-        p += 1;
     }
     true
 }
@@ -205,14 +176,12 @@ pub fn rest_zero(n: usize, j: Process, a: [Count; 16]) -> bool
 pub fn all_lower(news: [Count; 16], held: [Count; 16]) -> bool
     ensures { result ≡ all_lower news held }
 {
-    let mut p = 0;
-    while p < book::MOST_PROCESSES {
+    for p in 0..book::MOST_PROCESSES {
         let x = news[p];
         let y = held[p];
         if x.0 != NOT_KNOWN && y.0 <= x.0 {
             return false;
         }
-        p += 1;
     }
     true
 }

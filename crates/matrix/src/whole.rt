@@ -8,13 +8,11 @@ use book::{Count, Process};
 pub fn all_rest_zero(n: usize, matrix: [Count; 256]) -> bool
     ensures { result ≡ all_rest_zero n matrix }
 {
-    let mut j = 0;
-    while j < book::MOST_PROCESSES {
+    for j in 0..book::MOST_PROCESSES {
         let row = crate::row(matrix, Process(j + 1));
         if !crate::rest_zero(n, Process(j + 1), row) {
             return false;
         }
-        j += 1;
     }
     true
 }
@@ -23,14 +21,12 @@ pub fn all_rest_zero(n: usize, matrix: [Count; 256]) -> bool
 pub fn all_not_known(n: usize, matrix: [Count; 256]) -> bool
     ensures { result ≡ all_not_known n matrix }
 {
-    let mut j = 0;
-    while j < book::MOST_PROCESSES {
+    for j in 0..book::MOST_PROCESSES {
         let row = crate::row(matrix, Process(j + 1));
         let unknown = crate::not_known_row(n, Process(j + 1));
         if !crate::same(row, unknown) {
             return false;
         }
-        j += 1;
     }
     true
 }
@@ -50,10 +46,8 @@ pub fn all_none_above(matrix: [Count; 256], copy: [Count; 256]) -> bool
     ensures { result ≡ all_none_above matrix copy }
 {
     let mut below = true;
-    let mut i = 0;
-    while i < crate::ENTRIES {
+    for i in 0..crate::ENTRIES {
         below = still_below(below, matrix[i], copy[i]);
-        i += 1;
     }
     below
 }
@@ -62,10 +56,7 @@ pub fn all_none_above(matrix: [Count; 256], copy: [Count; 256]) -> bool
 fn or_differ(differ: bool, x: Count, y: Count) -> bool
     ensures { result ≡ (not (eqb x.0 y.0) || differ) }
 {
-    if x.0 != y.0 {
-        return true;
-    }
-    differ
+    x != y || differ
 }
 
 // For each process, whether its column differs from the copy's: all columns in one sweep along the rows.
@@ -73,11 +64,9 @@ pub fn columns_differ(matrix: [Count; 256], copy: [Count; 256]) -> [bool; 16]
     ensures { result ≡ columns_differ matrix copy }
 {
     let mut differ = [false; 16];
-    let mut i = 0;
-    while i < crate::ENTRIES {
+    for i in 0..crate::ENTRIES {
         let p = i % book::ROW_WIDTH;
         differ[p] = or_differ(differ[p], matrix[i], copy[i]);
-        i += 1;
     }
     differ
 }
@@ -89,12 +78,10 @@ pub fn invitations(me: Process, sent: [Count; 16]) -> [Count; 256]
 {
     let mut news = [Count(crate::NOT_KNOWN); 256];
     let own = me.0 - 1;
-    let mut i = 0;
-    while i < crate::ENTRIES {
+    for i in 0..crate::ENTRIES {
         if i % book::ROW_WIDTH == own {
             news[i] = sent[i / book::ROW_WIDTH];
         }
-        i += 1;
     }
     news
 }
@@ -104,11 +91,9 @@ pub fn polls(matrix: [Count; 256], copy: [Count; 256]) -> [Count; 256]
     ensures { result ≡ polls matrix copy }
 {
     let mut news = [Count(0); 256];
-    let mut i = 0;
-    while i < crate::ENTRIES {
+    for i in 0..crate::ENTRIES {
         let across = i % book::ROW_WIDTH * book::ROW_WIDTH + i / book::ROW_WIDTH;
         news[i] = crate::differing(matrix[across], copy[across]);
-        i += 1;
     }
     news
 }

@@ -1,18 +1,17 @@
 -- When a head is formed, and the numbers that hold one.
+use Rattle.std.specs.Prelude.{Some, None}
 use mathlib.Core.Path.{◌≡◌, refl, ap, ◌∙◌}
 use mathlib.Core.Bool.{true, false, ◌||◌, not}
 use mathlib.Core.List.{List, ◌∷◌}
 use Prim.Native.Nat.{ℕ}
 use lib.Dec.{eqb}
 use borrow.Author.Tests.{ne_eqb}
-use Rattle.varint.specs.declared.Numeral.TheVariants.{Number, Refused}
 use Rattle.varint.specs.Number.{read_number}
 use Rattle.varint.specs.Sequence.{Numbers}
 use Rattle.varint.proofs.Sequence.{numbers_none, numbers_more}
 use Rattle.book.specs.Bounds.{groups, largest}
 use Rattle.lists.proofs.Tests.{and_first, and_second}
 use Rattle.book.specs.Read.{numbers_from}
-use Rattle.message.specs.declared.HeadRead.TheVariants.{Found}
 use Rattle.book.specs.Names.{is_purpose, is_named}
 use Rattle.message.specs.Formed.{is_kind, head_formed, begin_formed}
 use Rattle.message.specs.Parts.{HeadFound}
@@ -47,21 +46,21 @@ module _ (n kind purpose sender : ℕ) where
 -- ---- a head in bytes
 
 module _ (n : ℕ) (s : List ℕ) where
-  pub no_first : read_number groups largest s 0 ≡ Refused → begin_formed n (numbers_from s 0).found ≡ false
+  pub no_first : read_number groups largest s 0 ≡ None → begin_formed n (numbers_from s 0).found ≡ false
   no_first none =
       ap (λ (ns : Numbers). begin_formed n ns.found) (numbers_none groups largest s 0 none) ∙ head_no_purpose n 0 0 0 refl
 
-  module _ (kind second : ℕ) (first : read_number groups largest s 0 ≡ Number kind second) where
+  module _ (kind second : ℕ) (first : read_number groups largest s 0 ≡ Some (kind, second)) where
     begin_one : numbers_from s 0 ≡ record { found = kind ∷ (numbers_from s second).found; stop = (numbers_from s second).stop }
     begin_one = numbers_more groups largest s 0 kind second first
 
-    pub no_second : read_number groups largest s second ≡ Refused → begin_formed n (numbers_from s 0).found ≡ false
+    pub no_second : read_number groups largest s second ≡ None → begin_formed n (numbers_from s 0).found ≡ false
     no_second none =
         ap (λ (ns : Numbers). begin_formed n ns.found) begin_one
         ∙ ap (λ (ns : Numbers). begin_formed n (kind ∷ ns.found)) (numbers_none groups largest s second none)
         ∙ head_no_purpose n kind 0 0 refl
 
-    module _ (purpose third : ℕ) (then' : read_number groups largest s second ≡ Number purpose third) where
+    module _ (purpose third : ℕ) (then' : read_number groups largest s second ≡ Some (purpose, third)) where
       begin_two : numbers_from s 0
           ≡ record { found = kind ∷ purpose ∷ (numbers_from s third).found; stop = (numbers_from s third).stop }
       begin_two =
@@ -69,13 +68,13 @@ module _ (n : ℕ) (s : List ℕ) where
           ∙ ap {B = Numbers} (λ (ns : Numbers). record { found = kind ∷ ns.found; stop = ns.stop })
           (numbers_more groups largest s second purpose third then')
 
-      pub no_third : read_number groups largest s third ≡ Refused → begin_formed n (numbers_from s 0).found ≡ false
+      pub no_third : read_number groups largest s third ≡ None → begin_formed n (numbers_from s 0).found ≡ false
       no_third none =
           ap (λ (ns : Numbers). begin_formed n ns.found) begin_two
           ∙ ap (λ (ns : Numbers). begin_formed n (kind ∷ purpose ∷ ns.found)) (numbers_none groups largest s third none)
           ∙ head_no_sender n kind purpose 0 refl
 
-      module _ (sender next : ℕ) (last : read_number groups largest s third ≡ Number sender next) where
+      module _ (sender next : ℕ) (last : read_number groups largest s third ≡ Some (sender, next)) where
         begin_three : numbers_from s 0
             ≡ record { found = kind ∷ purpose ∷ sender ∷ (numbers_from s next).found; stop = (numbers_from s next).stop }
         begin_three =
@@ -87,5 +86,5 @@ module _ (n : ℕ) (s : List ℕ) where
         not_formed e = ap (λ (ns : Numbers). begin_formed n ns.found) begin_three ∙ e
 
         pub head_found : head_formed n kind purpose sender ≡ true
-            → HeadFound n s (Found (record { kind = kind; purpose = purpose; sender = record { 0 = sender } }) next)
+            → HeadFound n s (Some (record { kind = kind; purpose = purpose; sender = record { 0 = sender } }, next))
         head_found e = (begin_three, e)

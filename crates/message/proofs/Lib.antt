@@ -1,3 +1,4 @@
+pub mod Found
 pub mod Pairs
 pub mod Heads
 pub mod PairLoop

@@ -1,26 +1,26 @@
 -- The loop over pairs, pass by pass, and the count before them.
+use Rattle.std.specs.Prelude.{Option, Some, None}
 use mathlib.Core.Path.{◌≡◌, refl, sym, ap, ◌∙◌}
-use mathlib.Core.Bool.{Bool, true, false, ◌&&◌, not, and-true, true≢false}
+use mathlib.Core.Bool.{Bool, true, false, ◌&&◌, not, and-true}
 use mathlib.Core.List.{List, [], ◌∷◌}
 use Prim.Native.Nat.{ℕ, zero, suc, ◌+◌, ◌-◌, ◌≤◌, ◌<◌}
 use native.Mathlib.Omega.{arith}
 use lib.ListN.{length, set, length-set}
 use lib.Dec.{ltb, leb, eqb}
-use borrow.Author.Tests.{ltb-true, leb-true, eqb-true, ne_eqb}
-use Rattle.varint.specs.declared.Numeral.{Numeral}
-use Rattle.varint.specs.declared.Numeral.TheVariants.{Number, Refused}
+use borrow.Author.Tests.{ltb-true, leb-true, eq-eqb, ne_eqb}
 use Rattle.varint.specs.Number.{read_number}
 use Rattle.varint.specs.Sequence.{Numbers}
-use Rattle.varint.proofs.Reading.{read_next}
+use Rattle.varint.proofs.Reading.{read_past}
 use Rattle.varint.proofs.Sequence.{numbers_none, numbers_more}
 use Rattle.book.specs.declared.Count.{Count}
 use Rattle.book.specs.Bounds.{groups, largest, mark}
+use Rattle.lists.specs.Pick.{pick}
 use Rattle.lists.proofs.Tests.{and_both, and_first, and_second}
 use Rattle.book.specs.Read.{numbers_from}
-use Rattle.message.specs.declared.PairsRead.{PairsRead}
 use Rattle.message.specs.Layout.{no_news}
 use Rattle.message.specs.Formed.{pair_formed, pairs_formed, news_in, counted_formed, news_counted}
-use Rattle.message.specs.Parts.{CountedFound, PairsFound}
+use Rattle.message.specs.Parts.{counted_read, pairs_read}
+use Rattle.message.proofs.Found.{finds, finds_none}
 
 -- what a formed pair is
 pub pair_in : (n end last process counter : ℕ) → pair_formed n end last process counter ≡ true
@@ -87,11 +87,10 @@ sofar_begun n end s at count news e long =
       carried = ap (λ (l : List Count). news_in l (numbers_from s at).found) (sym e);
     }
 
--- the pairs are not formed: nothing is said of the news
-not_counted : (n end : ℕ) (s : List ℕ) (at count : ℕ) (news : List Count) → pairs_formed n end 0 count (numbers_from s at).found ≡ false
-    → CountedFound n end s at count (record { formed = false; news = news })
-not_counted n end s at count news e =
-    record { asked = sym (and_second (eqb (numbers_from s at).stop (length s)) _ e); carried = λ t. absurd (true≢false (sym t)) }
+-- the pairs are not formed
+not_counted : (n end : ℕ) (s : List ℕ) (at count : ℕ) → pairs_formed n end 0 count (numbers_from s at).found ≡ false
+    → None ≡ counted_read n end s at count
+not_counted n end s at count e = finds_none _ (and_second (eqb (numbers_from s at).stop (length s)) _ e)
 
 module _ (n end : ℕ) (s : List ℕ) (at count : ℕ) (news : List Count) (last next k : ℕ) (inv : Sofar n end s at count news last next k) where
   module _ (h : k < count) where
@@ -105,24 +104,22 @@ module _ (n end : ℕ) (s : List ℕ) (at count : ℕ) (news : List Count) (last
         ∙ ap (pairs_formed n end last (suc (count - (k + 1)))) e
 
     -- no process stands there
-    pub sofar_short : read_number groups largest s next ≡ Refused
-        → CountedFound n end s at count (record { formed = false; news = news })
+    pub sofar_short : read_number groups largest s next ≡ None → None ≡ counted_read n end s at count
     sofar_short none =
-        not_counted n end s at count news
+        not_counted n end s at count
         (left_asked [] (ap (λ (ns : Numbers). ns.found) (numbers_none groups largest s next none)) ∙ pairs_short n end last (count - (k + 1)))
 
-    module _ (process middle : ℕ) (first : read_number groups largest s next ≡ Number process middle) where
+    module _ (process middle : ℕ) (first : read_number groups largest s next ≡ Some (process, middle)) where
       -- no counter stands there
-      pub sofar_half : read_number groups largest s middle ≡ Refused
-          → CountedFound n end s at count (record { formed = false; news = news })
+      pub sofar_half : read_number groups largest s middle ≡ None → None ≡ counted_read n end s at count
       sofar_half none =
-          not_counted n end s at count news
+          not_counted n end s at count
           (left_asked (process ∷ [])
           (ap (λ (ns : Numbers). ns.found) (numbers_more groups largest s next process middle first)
           ∙ ap (λ (ns : Numbers). process ∷ ns.found) (numbers_none groups largest s middle none))
           ∙ pairs_half n end last (count - (k + 1)) process)
 
-      module _ (counter after : ℕ) (second : read_number groups largest s middle ≡ Number counter after) where
+      module _ (counter after : ℕ) (second : read_number groups largest s middle ≡ Some (counter, after)) where
         both : numbers_from s next
             ≡ record { found = process ∷ counter ∷ (numbers_from s after).found; stop = (numbers_from s after).stop }
         both =
@@ -137,9 +134,8 @@ module _ (n end : ℕ) (s : List ℕ) (at count : ℕ) (news : List Count) (last
             ∙ pairs_more n end last (count - (k + 1)) process counter (numbers_from s after).found
 
         -- the pair is not formed
-        pub sofar_refused : pair_formed n end last process counter ≡ false
-            → CountedFound n end s at count (record { formed = false; news = news })
-        sofar_refused e = not_counted n end s at count news (step ∙ and_first (pair_formed n end last process counter) _ e)
+        pub sofar_refused : pair_formed n end last process counter ≡ false → None ≡ counted_read n end s at count
+        sofar_refused e = not_counted n end s at count (step ∙ and_first (pair_formed n end last process counter) _ e)
 
         -- it is
         pub sofar_more : pair_formed n end last process counter ≡ true → (entry : Count) → entry.0 ≡ counter
@@ -155,57 +151,51 @@ module _ (n end : ℕ) (s : List ℕ) (at count : ℕ) (news : List Count) (last
                   ∙ ap (λ (v : ℕ). news_in (set news (process - 1) (record { 0 = v })) (numbers_from s after).found) (sym is);
             }
 
-  -- all are read: nothing follows them just where the bytes end there
-  pub sofar_ended : count ≤ k → CountedFound n end s at count (record { formed = eqb next (length s); news = news })
-  sofar_ended h = go (read_number groups largest s next) refl
-    where
-      none_left : count - k ≡ 0
-      none_left = omega arith
+  -- all are read
+  module _ (h : count ≤ k) where
+    none_left : count - k ≡ 0
+    none_left = omega arith
 
-      left_asked' : (numbers : List ℕ) → (numbers_from s next).found ≡ numbers
-          → pairs_formed n end 0 count (numbers_from s at).found ≡ pairs_formed n end last zero numbers
-      left_asked' numbers e =
-          inv.asked ∙ ap (λ (m : ℕ). pairs_formed n end last m (numbers_from s next).found) none_left ∙ ap (pairs_formed n end last zero) e
+    left_over : (numbers : List ℕ) → (numbers_from s next).found ≡ numbers
+        → pairs_formed n end 0 count (numbers_from s at).found ≡ pairs_formed n end last zero numbers
+    left_over numbers e =
+        inv.asked ∙ ap (λ (m : ℕ). pairs_formed n end last m (numbers_from s next).found) none_left ∙ ap (pairs_formed n end last zero) e
 
-      go : (r : Numeral) → read_number groups largest s next ≡ r
-          → CountedFound n end s at count (record { formed = eqb next (length s); news = news })
-      go Refused e =
-          let rest : numbers_from s next ≡ record { found = []; stop = next } = numbers_none groups largest s next e in
-          let all : pairs_formed n end 0 count (numbers_from s at).found ≡ true
-          = left_asked' [] (ap (λ (ns : Numbers). ns.found) rest) ∙ pairs_done n end last in
-          let stop : (numbers_from s at).stop ≡ next = inv.stops ∙ ap (λ (ns : Numbers). ns.stop) rest in
-          record {
-            asked = rw (all, stop) (sym (and-true (eqb next (length s))));
-            carried = λ _. sym (inv.carried ∙ ap (λ (ns : Numbers). news_in news ns.found) rest ∙ news_none news);
-          }
-      go (Number v after) e =
-          let n' = read_next groups largest s next v after e in
-          let inside : (next ≡ length s → ⊥) = λ q. absurd (omega arith) in
-          let over : pairs_formed n end 0 count (numbers_from s at).found ≡ false
-          = left_asked' (v ∷ (numbers_from s after).found) (ap (λ (ns : Numbers). ns.found) (numbers_more groups largest s next v after e))
-          ∙ pairs_over n end last v (numbers_from s after).found in
-          record {
-            asked = ne_eqb next (length s) inside ∙ sym (and_second (eqb (numbers_from s at).stop (length s)) _ over);
-            carried = λ t. absurd (inside (eqb-true next (length s) t));
-          }
+    -- something follows them: a number, or what is none
+    pub sofar_over : (next ≡ length s → ⊥) → None ≡ counted_read n end s at count
+    sofar_over goes_on = go (read_number groups largest s next) refl
+      where
+        go : (r : Option (ℕ × ℕ)) → read_number groups largest s next ≡ r → None ≡ counted_read n end s at count
+        go None e =
+            let stop : (numbers_from s at).stop ≡ next = inv.stops ∙ ap (λ (ns : Numbers). ns.stop) (numbers_none groups largest s next e) in
+            finds_none _ (and_first (eqb (numbers_from s at).stop (length s)) _ (rw stop (ne_eqb next (length s) goes_on)))
+        go (Some (v, after)) e =
+            not_counted n end s at count
+            (left_over (v ∷ (numbers_from s after).found) (ap (λ (ns : Numbers). ns.found) (numbers_more groups largest s next v after e))
+            ∙ pairs_over n end last v (numbers_from s after).found)
+
+    -- the bytes end with them
+    pub sofar_ended : next ≡ length s → Some news ≡ counted_read n end s at count
+    sofar_ended ends =
+        let rest : numbers_from s next ≡ record { found = []; stop = next }
+        = numbers_none groups largest s next (read_past groups largest s next (omega arith)) in
+        let stop : (numbers_from s at).stop ≡ length s = inv.stops ∙ ap (λ (ns : Numbers). ns.stop) rest ∙ ends in
+        let all : pairs_formed n end 0 count (numbers_from s at).found ≡ true
+        = left_over [] (ap (λ (ns : Numbers). ns.found) rest) ∙ pairs_done n end last in
+        finds (ap (λ (b : Bool). eqb (numbers_from s at).stop (length s) && b) all ∙ and-true (eqb (numbers_from s at).stop (length s)) ∙ eq-eqb (numbers_from s at).stop (length s) stop)
+        (sym (inv.carried ∙ ap (λ (ns : Numbers). news_in news ns.found) rest ∙ news_none news))
 
 -- ---- the count before the pairs
 
-pub no_count : (n end : ℕ) (s : List ℕ) (at : ℕ) (news : List Count) → read_number groups largest s at ≡ Refused
-    → PairsFound n end s at (record { formed = false; news = news })
-no_count n end s at news none =
-    record {
-      asked = sym
-          (ap (λ (ns : Numbers). eqb ns.stop (length s) && counted_formed n end ns.found) (numbers_none groups largest s at none)
-          ∙ and_second (eqb at (length s)) false refl);
-      carried = λ t. absurd (true≢false (sym t));
-    }
+pub no_count : (n end : ℕ) (s : List ℕ) (at : ℕ) → read_number groups largest s at ≡ None → None ≡ pairs_read n end s at
+no_count n end s at none =
+    finds_none _
+    (ap (λ (ns : Numbers). eqb ns.stop (length s) && counted_formed n end ns.found) (numbers_none groups largest s at none)
+    ∙ and_second (eqb at (length s)) false refl)
 
-pub count_first : (n end : ℕ) (s : List ℕ) (at count first : ℕ) (read : PairsRead) → read_number groups largest s at ≡ Number count first
-    → CountedFound n end s first count read → PairsFound n end s at read
-count_first n end s at count first read e counted =
-    let more = numbers_more groups largest s at count first e in
-    record {
-      asked = counted.asked ∙ sym (ap (λ (ns : Numbers). eqb ns.stop (length s) && counted_formed n end ns.found) more);
-      carried = λ t. counted.carried t ∙ sym (ap (λ (ns : Numbers). news_counted ns.found) more);
-    }
+pub count_first : (n end : ℕ) (s : List ℕ) (at count first : ℕ) {read : Option (List Count)} → read_number groups largest s at ≡ Some (count, first)
+    → read ≡ counted_read n end s first count → read ≡ pairs_read n end s at
+count_first n end s at count first e counted =
+    counted
+    ∙ sym (ap (λ (ns : Numbers). pick (eqb ns.stop (length s) && counted_formed n end ns.found) (Some (news_counted ns.found)) None)
+    (numbers_more groups largest s at count first e))

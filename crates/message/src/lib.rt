@@ -1,14 +1,14 @@
 #![tactic(auto)]
 // Document 01, "Message (own)": messages as data and as bytes, and reading them.
-ghost use Rattle.std.specs.Prelude.{◌≡◌, ◌≤◌, ◌<◌};
+ghost use Rattle.std.specs.Prelude.{◌≡◌, ◌≤◌, ◌<◌, Some, None};
 ghost use Rattle.book.specs.Bounds.{mark};
+ghost use Rattle.lists.specs.Pick.{pick};
 ghost use Rattle.message.specs.Layout.{pair_count};
 ghost use Rattle.message.specs.Formed.{head_formed, participant_end, pair_formed, invitation_formed, message_formed};
-ghost use Rattle.message.specs.Read.{no_message, message_read};
-ghost use Rattle.message.specs.Parts.{HeadFound, CountedFound, PairsFound};
+ghost use Rattle.message.specs.Read.{message_read};
+ghost use Rattle.message.specs.Parts.{HeadFound, counted_read, pairs_read};
 
 use book::{Count, Counter, Process};
-use varint::Numeral;
 
 // The most bytes of the four numbers before a message's pairs, and of a pair: a process of one byte, and a counter.
 pub const HEAD_SIZE: usize = 4;
@@ -30,27 +30,6 @@ pub struct Message {
     pub news: [Count; 16],
 }
 
-// A formed head, and the place after it.
-#[derive(Clone, Copy)]
-pub enum HeadRead {
-    Found(Head, usize),
-    Refused,
-}
-
-// Whether pairs are formed up to the end of the bytes, and what they carry.
-#[derive(Clone, Copy)]
-pub struct PairsRead {
-    pub formed: bool,
-    pub news: [Count; 16],
-}
-
-// Whether a message is formed, and the message, all zero where it is not.
-#[derive(Clone, Copy)]
-pub struct ReadMessage {
-    pub formed: bool,
-    pub message: Message,
-}
-
 // Is the head formed: a kind, a purpose, a sender, and purpose 2 only in an invitation?
 fn head_formed(n: usize, kind: u64, purpose: u64, sender: u64) -> bool
     ensures { result ≡ head_formed n kind purpose sender }
@@ -67,37 +46,22 @@ fn head_formed(n: usize, kind: u64, purpose: u64, sender: u64) -> bool
     purpose != 2 || kind == 1
 }
 
-// The head of a message: read apart from its pairs, so that a reader can decide by it.
-pub fn read_head(s: &[u8], n: usize) -> HeadRead
+// The head of a message and the place after it, where it is formed: read apart from its pairs, so that a reader can decide by it.
+pub fn read_head(s: &[u8], n: usize) -> Option<(Head, usize)>
     ensures { HeadFound n s.now result }
 {
-    let Numeral::Number(kind, second) = varint::read_number(s, 0, book::GROUPS, book::LARGEST)
-    else {
-        return HeadRead::Refused;
-    };
-    let Numeral::Number(purpose, third) = varint::read_number(
-        s,
-        second,
-        book::GROUPS,
-        book::LARGEST,
-    ) else {
-        return HeadRead::Refused;
-    };
-    let Numeral::Number(sender, next) = varint::read_number(s, third, book::GROUPS, book::LARGEST)
-    else {
-        return HeadRead::Refused;
-    };
+    let (kind, second) = varint::read_number(s, 0, book::GROUPS, book::LARGEST)?;
+    let (purpose, third) = varint::read_number(s, second, book::GROUPS, book::LARGEST)?;
+    let (sender, next) = varint::read_number(s, third, book::GROUPS, book::LARGEST)?;
     if !head_formed(n, kind, purpose, sender) {
-        return HeadRead::Refused;
+        return None;
     }
-    HeadRead::Found(
-        Head {
-            kind,
-            purpose,
-            sender: Process(sender as usize),
-        },
-        next,
-    )
+    let head = Head {
+        kind,
+        purpose,
+        sender: Process(sender as usize),
+    };
+    Some((head, next))
 }
 
 // The participant at whose end of the strand a message is read; 0 where the initiator reads one that names itself.
@@ -137,69 +101,37 @@ fn entry(counter: u64) -> Count
     Count(counter as Counter)
 }
 
-// So many pairs from a place on, up to the end of the bytes; none names the participant `end`.
-fn read_counted(s: &[u8], at: usize, n: usize, end: Process, count: u64) -> PairsRead
+// What so many pairs from a place on carry, where they are formed and end the bytes; none names the participant `end`.
+fn read_counted(s: &[u8], at: usize, n: usize, end: Process, count: u64) -> Option<[Count; 16]>
     requires { n ≤ 16 }
-    ensures { CountedFound n end.0 s.now at count result }
+    ensures { result ≡ counted_read n end.0 s.now at count }
 {
     let mut news = [Count(matrix::NOT_KNOWN); 16];
     let mut last: u64 = 0;
     let mut next = at;
-    let mut k: u64 = 0;
-    while k < count {
-        let Numeral::Number(process, middle) = varint::read_number(
-            s,
-            next,
-            book::GROUPS,
-            book::LARGEST,
-        ) else {
-            return PairsRead {
-                formed: false,
-                news,
-            };
-        };
-        let Numeral::Number(counter, after) = varint::read_number(
-            s,
-            middle,
-            book::GROUPS,
-            book::LARGEST,
-        ) else {
-            return PairsRead {
-                formed: false,
-                news,
-            };
-        };
+    for k in 0..count {
+        let (process, middle) = varint::read_number(s, next, book::GROUPS, book::LARGEST)?;
+        let (counter, after) = varint::read_number(s, middle, book::GROUPS, book::LARGEST)?;
         if !pair_formed(n, end, last, process, counter) {
-            return PairsRead {
-                formed: false,
-                news,
-            };
+            return None;
         }
         let place = process as usize - 1;
         news[place] = entry(counter);
         last = process;
         next = after;
-        k += 1;
     }
-    PairsRead {
-        formed: next == s.len(),
-        news,
+    if next != s.len() {
+        return None;
     }
+    Some(news)
 }
 
-// The count of pairs and the pairs, from a place up to the end of the bytes.
-pub fn read_pairs(s: &[u8], at: usize, n: usize, end: Process) -> PairsRead
+// What the pairs from a place on carry, their count before them, where they are formed and end the bytes.
+pub fn read_pairs(s: &[u8], at: usize, n: usize, end: Process) -> Option<[Count; 16]>
     requires { n ≤ 16 }
-    ensures { PairsFound n end.0 s.now at result }
+    ensures { result ≡ pairs_read n end.0 s.now at }
 {
-    let Numeral::Number(count, first) = varint::read_number(s, at, book::GROUPS, book::LARGEST)
-    else {
-        let news = [Count(matrix::NOT_KNOWN); 16];
-        return PairsRead {
-            formed: false,
-            news,
-        };
-    };
+    let (count, first) = varint::read_number(s, at, book::GROUPS, book::LARGEST)?;
     read_counted(s, first, n, end, count)
 }
 
@@ -209,13 +141,11 @@ pub fn pair_count(news: [Count; 16]) -> usize
     ensures upper_bound { result ≤ 16 }
 {
     let mut count = 0;
-    let mut p = 0;
-    while p < book::MOST_PROCESSES {
+    for p in 0..book::MOST_PROCESSES {
         let counter = news[p];
         if counter.0 != matrix::NOT_KNOWN {
             count += 1;
         }
-        p += 1;
     }
     count
 }
@@ -240,53 +170,19 @@ fn invitation_formed(message: Message) -> bool
     pairs == 1 && own.0 != matrix::NOT_KNOWN
 }
 
-// Beside a message that is not formed.
-pub fn no_message() -> Message
-    ensures { result ≡ no_message }
-{
-    let news = [Count(0); 16];
-    Message {
-        head: Head {
-            kind: 0,
-            purpose: 0,
-            sender: Process(0),
-        },
-        news,
-    }
-}
-
-// The message that bytes hold, read by process `me` in the initiator's search (question 14). Inner: asks for at most sixteen
-// processes.
-pub fn read_message(s: &[u8], n: usize, me: Process, initiator: Process) -> ReadMessage
+// The message that bytes hold, read by process `me` in the initiator's search, where it is formed (question 14). Inner: asks for
+// at most sixteen processes.
+pub fn read_message(s: &[u8], n: usize, me: Process, initiator: Process) -> Option<Message>
     requires { n ≤ 16 }
-    ensures formed_value { result.formed ≡ message_formed n me.0 initiator.0 s.now }
-    ensures message_value { result.message ≡ message_read n me.0 initiator.0 s.now }
+    ensures { result
+        ≡ pick (message_formed n me.0 initiator.0 s.now) (Some (message_read n me.0 initiator.0 s.now)) None }
 {
-    let HeadRead::Found(head, at) = read_head(s, n) else {
-        return ReadMessage {
-            formed: false,
-            message: no_message(),
-        };
-    };
-    let sender = head.sender;
-    let end = participant_end(me, initiator, sender);
-    let pairs = read_pairs(s, at, n, end);
-    let news = pairs.news;
+    let (head, at) = read_head(s, n)?;
+    let end = participant_end(me, initiator, head.sender);
+    let news = read_pairs(s, at, n, end)?;
     let message = Message { head, news };
-    if !pairs.formed {
-        return ReadMessage {
-            formed: false,
-            message: no_message(),
-        };
-    }
     if !invitation_formed(message) {
-        return ReadMessage {
-            formed: false,
-            message: no_message(),
-        };
+        return None;
     }
-    ReadMessage {
-        formed: true,
-        message,
-    }
+    Some(message)
 }

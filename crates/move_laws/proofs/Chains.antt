@@ -7,7 +7,6 @@ use native.Mathlib.Omega.{arith}
 use lib.ListN.{get_or}
 use Rattle.book.specs.Lent.{Tables}
 use Rattle.book.specs.Bounds.{mark}
-use Rattle.book.specs.View.{count}
 use Rattle.book.specs.Accepted.{AreAccepted}
 use Rattle.line_theory.specs.Sets.{View, IsBook}
 use Rattle.line_theory.specs.OfTables.{view_of}

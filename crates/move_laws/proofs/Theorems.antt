@@ -1,4 +1,5 @@
 -- The statements of `specs/Statements.antt` hold.
+use Rattle.std.specs.Prelude.{Ok}
 use mathlib.Core.Path.{◌≡◌, refl, sym, ap, ◌∙◌}
 use mathlib.Core.Bool.{true}
 use mathlib.Core.List.{List}
@@ -7,7 +8,6 @@ use Prim.Native.Nat.{ℕ, ◌+◌, ◌<◌}
 use native.Mathlib.Omega.{arith}
 use lib.ListN.{length, get_or}
 use Rattle.book.specs.Lent.{Tables}
-use Rattle.book.specs.declared.WriteAnswer.TheVariants.{Length}
 use Rattle.book.specs.Check.{tables_question}
 use Rattle.book.specs.Tables.{shape_of, sent_table, received_table}
 use Rattle.book.specs.Write.{bytes_of, answer_to_write}
@@ -137,7 +137,7 @@ pub moved_passes_read : MovedPassesRead
 moved_passes_read m into into' accepted l l' =
     let t : Tables = tables_after m in
     let bytes : List ℕ = bytes_of t in
-    let given : answer_to_write t bytes ≡ Length (length bytes)
+    let given : answer_to_write t bytes ≡ Ok (length bytes)
     = answer_given t bytes (write_given t bytes (accepted_after m accepted).passed (omega arith)) in
     rw (bytes_left t bytes (length bytes) given) at
     (written_then_read t bytes into into' (length bytes) (accepted_after m accepted).sixteen l l' given)

@@ -4,20 +4,19 @@ ghost use Rattle.std.specs.Prelude.{◌≡◌, ◌+◌, ◌-◌, ◌*◌, ◌≤
 ghost use Rattle.std.proofs.lemmas.List.Edits.{sets};
 ghost use Rattle.book.specs.Lent.{lent};
 ghost use Rattle.book.specs.Tables.{padded};
-ghost use Rattle.book.specs.InTurn.{answer_to};
+ghost use Rattle.book.specs.InTurn.{answer_with};
+ghost use Rattle.book.specs.Numbers.{by_number};
 ghost use Rattle.lists.specs.Over.{tab};
 ghost use Rattle.shown.specs.Rows.{rows_to};
-ghost use Rattle.restart.specs.Calls.{move_question, order_given, shape_moved, sent_moved, received_moved};
-ghost use Rattle.moves.specs.Parts.{lowered, Movable, rows_moved};
+ghost use Rattle.restart.specs.Calls.{move_question, sent_moved, received_moved};
+ghost use Rattle.moves.specs.Parts.{lowered, Movable, rows_moved, line_moved};
 
-use book::{Answer, Checkpoint, Count, Counter, Process, Shape, TableRows};
+use book::{Checkpoint, Count, Counter, Process, Question, Shape, TableRows};
 use restart::{Order, Plan};
 
-// The answer of `move_line`: the shape of the moved tables, and the restart order. A refusal hands back the shape that it was given,
-// and an order of zeros.
+// What `move_line` answers: the shape of the moved tables, and the restart order.
 #[derive(Clone, Copy)]
 pub struct Moved {
-    pub answer: Answer,
     pub shape: Shape,
     pub order: Order,
 }
@@ -34,11 +33,9 @@ fn move_row(table: &mut [Counter], from: usize, to: usize, off: [Count; 16])
     requires { (to ≤ from) × (from * 16 + 16 ≤ length table.old) }
     ensures { table.new ≡ sets table.old (to * 16) (tab 16 (lowered table.old from off)) }
 {
-    let mut p = 0;
-    while p < book::ROW_WIDTH {
+    for p in 0..book::ROW_WIDTH {
         let v = table[from * book::ROW_WIDTH + p];
         table[to * book::ROW_WIDTH + p] = less(v, off[p]);
-        p += 1;
     }
 }
 
@@ -47,10 +44,8 @@ fn move_process(table: &mut [Counter], from: usize, to: usize, kept: usize, off:
     requires { (to ≤ from) × ((from + kept) * 16 ≤ length table.old) }
     ensures { table.new ≡ sets table.old (to * 16) (rows_to (λ r. lowered table.old (from + (r - 1)) off) kept) }
 {
-    let mut k = 0;
-    while k < kept {
+    for k in 0..kept {
         move_row(table, from + k, to + k, off);
-        k += 1;
     }
 }
 
@@ -71,13 +66,11 @@ fn move_rows(
     let n = shape.n;
     let first = rows.first;
     let mut to = 0;
-    let mut j = 0;
-    while j < n {
+    for j in 0..n {
         let r = line[j];
         let own = matrix::row(off, Process(j + 1));
         move_process(table, first[j] + (r.0 - 1), to, kept[j], own);
         to += kept[j];
-        j += 1;
     }
     to
 }
@@ -125,28 +118,18 @@ pub fn move_line(
     sent: &mut [Counter],
     received: &mut [Counter],
     purpose: u64,
-) -> Moved
-    ensures answer_value { result.answer ≡ answer_to (move_question (lent shape sent.old received.old) purpose) }
-    ensures shape_value { result.shape ≡ shape_moved (lent shape sent.old received.old) purpose }
-    ensures order_value { result.order ≡ order_given (lent shape sent.old received.old) purpose }
+) -> Result<Moved, Question>
+    ensures answer { by_number result ≡ answer_with (move_question (lent shape sent.old received.old) purpose) (line_moved (lent shape sent.old received.old) purpose) }
     ensures sent_after { sent.new ≡ sent_moved (lent shape sent.old received.old) purpose }
     ensures received_after { received.new ≡ received_moved (lent shape sent.old received.old) purpose }
 {
-    let question = plans::question(shape, sent, received, purpose);
-    if question != 0 {
-        return Moved {
-            answer: Answer::Refused(question),
-            shape,
-            order: plans::no_order(),
-        };
-    }
+    plans::question(shape, sent, received, purpose)?;
     let rows = book::rows_of(shape);
     let plan = plans::plan_move(rows, sent, received, purpose);
     let order = plan.order;
     let moved = apply(rows, plan, sent, received);
-    Moved {
-        answer: Answer::Accepted,
+    Ok(Moved {
         shape: moved,
         order,
-    }
+    })
 }

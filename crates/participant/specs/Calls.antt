@@ -1,8 +1,8 @@
 -- The participant's calls: the questions of each in document 01's order, and what it answers.
-use Rattle.std.specs.Prelude.{List, ℕ, ◌-◌}
+use Rattle.std.specs.Prelude.{List, ℕ, ◌-◌, Result, Err, Option, Some, None}
 use Rattle.book.specs.Lent.{Tables}
 use Rattle.book.specs.declared.Process.{Process}
-use Rattle.book.specs.InTurn.{◌then◌, ask, unless_refused}
+use Rattle.book.specs.InTurn.{◌then◌, ask, answer_with, unless_refused}
 use Rattle.book.specs.Check.{tables_question}
 use Rattle.matrix.specs.Entries.{all_lower}
 use Rattle.message.specs.declared.Message.{Message}
@@ -25,7 +25,7 @@ first_question tables me initiator purpose =
     then λ _. ask 10 (participant_named tables.shape.n me initiator)
     then λ _. ask 11 (is_purpose purpose)
 
--- beside a refusal: all zero, with no processes to be known or not
+-- where there is none: all zero, with no processes to be known or not
 unfoldable pub no_participant : Participant
 no_participant = first_of 0 0 (record { 0 = 0 }) (record { 0 = 0 }) 0
 
@@ -56,6 +56,12 @@ message_question n state s =
     ask 14 (message_formed n state.me.0 state.initiator.0 s)
     then λ _. ask 15 (awaits state (read_by n state s))
     then λ _. ask 16 (all_lower (read_by n state s).news state.column)
+
+-- what these three answer of a message that was read: the message, if they pass
+abbrev pub message_answer : Participant → Option Message → Result Message ℕ
+message_answer state None = Err 14
+message_answer state (Some m) =
+    answer_with (ask 15 (awaits state m) then λ _. ask 16 (all_lower m.news state.column)) m
 
 -- the step on accepted tables
 abbrev pub step_on : Tables → Participant → List ℕ → ParticipantStep

@@ -6,19 +6,18 @@ mod step;
 ghost use Rattle.std.specs.Prelude.{◌≡◌, ◌-◌, ◌≤◌};
 ghost use Rattle.book.specs.Lent.{lent};
 ghost use Rattle.book.specs.Accepted.{AcceptedRows};
-ghost use Rattle.book.specs.InTurn.{◌then◌, ask, answer_to};
-ghost use Rattle.matrix.specs.Entries.{all_lower};
-ghost use Rattle.mail.specs.Outgoing.{no_lengths};
+ghost use Rattle.book.specs.InTurn.{answer_to, answer_with};
+ghost use Rattle.book.specs.Numbers.{by_number};
 ghost use Rattle.machine.specs.Own.{own_of};
-ghost use Rattle.participant.specs.Step.{first_of, awaits};
-ghost use Rattle.participant.specs.Calls.{no_participant, first_question, first_state, state_question, receive_question, state_after, lengths_after, bytes_after};
+ghost use Rattle.participant.specs.Step.{first_of};
+ghost use Rattle.participant.specs.Calls.{no_participant, first_question, first_state, state_question, message_answer, receive_question, state_after, lengths_after, bytes_after};
 
-use book::{Answer, Checkpoint, Count, Counter, Process, Shape, TableRows};
+use book::{Checkpoint, Count, Counter, Process, Question, Shape, TableRows};
 use mail::Outgoing;
-use message::ReadMessage;
+use message::Message;
 
 // How far a participant has come: before the invitation, in the search, or ended.
-#[derive(Clone, Copy)]
+#[derive(Clone, Copy, PartialEq, Eq)]
 pub enum Stage {
     Before,
     Searching,
@@ -46,23 +45,14 @@ pub struct ParticipantStep {
     pub outgoing: Outgoing,
 }
 
-// The answer of `first`; beside a refusal the state is all zero.
+// What `receive` answers: the state afterwards, and the length written for each process.
 #[derive(Clone, Copy)]
-pub struct ParticipantFirst {
-    pub answer: Answer,
-    pub state: Participant,
-}
-
-// The answer of `receive`: the state afterwards, and the length written for each process. A refusal hands back the state it
-// was given, and all lengths are zero.
-#[derive(Clone, Copy)]
-pub struct ParticipantAnswer {
-    pub answer: Answer,
+pub struct ParticipantAfter {
     pub state: Participant,
     pub lengths: [usize; 16],
 }
 
-// Beside a refusal, and at a place that is no participant's.
+// At a place that is no participant's.
 pub fn no_participant() -> Participant
     ensures { result ≡ no_participant }
 {
@@ -89,37 +79,21 @@ impl Participant {
         me: Process,
         initiator: Process,
         purpose: u64,
-    ) -> ParticipantFirst
-        ensures answer_value { result.answer ≡ answer_to (first_question (lent shape sent.now received.now) me.0 initiator.0 purpose) }
-        ensures state_value { result.state ≡ first_state (lent shape sent.now received.now) me initiator purpose }
+    ) -> Result<Participant, Question>
+        ensures { by_number result ≡ answer_with (first_question (lent shape sent.now received.now) me.0 initiator.0 purpose) (first_state (lent shape sent.now received.now) me initiator purpose) }
     {
-        let question = tables::question(shape, sent, received);
-        if question != 0 {
-            return ParticipantFirst {
-                answer: Answer::Refused(question),
-                state: no_participant(),
-            };
-        }
+        tables::check(shape, sent, received)?;
         let n = shape.n;
         let counts = shape.counts;
         if !machine::participant_named(n, me, initiator) {
-            return ParticipantFirst {
-                answer: Answer::Refused(10),
-                state: no_participant(),
-            };
+            return Err(Question::Named);
         }
         if !book::is_purpose(purpose) {
-            return ParticipantFirst {
-                answer: Answer::Refused(11),
-                state: no_participant(),
-            };
+            return Err(Question::Purpose);
         }
         let place = me.0 - 1;
         let newest = Checkpoint(counts[place]);
-        ParticipantFirst {
-            answer: Answer::Accepted,
-            state: Participant::before(n, newest, me, initiator, purpose),
-        }
+        Ok(Participant::before(n, newest, me, initiator, purpose))
     }
 
     // Before the invitation: at its newest checkpoint, nothing known. Inner: the process counts from 1.
@@ -147,55 +121,46 @@ impl Participant {
     }
 
     // Questions 10, 11 and 13 of a state, on accepted tables.
-    fn state_question(self, rows: TableRows, sent: &[Counter], received: &[Counter]) -> u32
+    fn state_question(
+        self,
+        rows: TableRows,
+        sent: &[Counter],
+        received: &[Counter],
+    ) -> Result<(), Question>
         requires { AcceptedRows rows sent.now received.now }
-        ensures { result ≡ state_question rows.shape.n (own_of (lent rows.shape sent.now received.now) (self.me.0 - 1)) self }
+        ensures { by_number result ≡ answer_to (state_question rows.shape.n (own_of (lent rows.shape sent.now received.now) (self.me.0 - 1)) self) }
     {
         let shape = rows.shape;
         let me = self.me;
         let initiator = self.initiator;
         if !machine::participant_named(shape.n, me, initiator) {
-            return 10;
+            return Err(Question::Named);
         }
         if !book::is_purpose(self.purpose) {
-            return 11;
+            return Err(Question::Purpose);
         }
         if !self.fits(rows, sent, received) {
-            return 13;
+            return Err(Question::StateFits);
         }
-        0
+        Ok(())
     }
 
-    // Questions 14 to 16 of a message that was read.
-    pub fn message_question(self, read: ReadMessage) -> u32
-        ensures { result ≡ (ask 14 read.formed then λ _. ask 15 (awaits self read.message) then λ _. ask 16 (all_lower read.message.news self.column)) }
+    // Questions 14 to 16 of a message that was read; the message, if they pass.
+    pub fn message_question(self, read: Option<Message>) -> Result<Message, Question>
+        ensures { by_number result ≡ message_answer self read }
     {
-        if !read.formed {
-            return 14;
-        }
-        let message = read.message;
+        let Some(message) = read else {
+            return Err(Question::MessageFormed);
+        };
         let news = message.news;
         let column = self.column;
         if !self.awaits(message) {
-            return 15;
+            return Err(Question::Awaited);
         }
         if !matrix::all_lower(news, column) {
-            return 16;
+            return Err(Question::Lower);
         }
-        0
-    }
-
-    // The question that refuses, with the state and no lengths.
-    fn refused(self, question: u32) -> ParticipantAnswer
-        requires { 1 ≤ question }
-        ensures { (result.answer ≡ answer_to question) × ((result.state ≡ self) × (result.lengths ≡ no_lengths)) }
-    {
-        let lengths = [0usize; 16];
-        ParticipantAnswer {
-            answer: Answer::Refused(question),
-            state: self,
-            lengths,
-        }
+        Ok(message)
     }
 
     // A participant receives a message: the step, and its report at the start of the buffer. Questions: the tables', 10, 11,
@@ -207,41 +172,21 @@ impl Participant {
         received: &[Counter],
         s: &[u8],
         out: &mut [u8],
-    ) -> ParticipantAnswer
-        ensures answer_value { result.answer ≡ answer_to (receive_question (lent shape sent.now received.now) self s.now out.old) }
-        ensures state_value { result.state ≡ state_after (lent shape sent.now received.now) self s.now out.old }
-        ensures lengths_value { result.lengths ≡ lengths_after (lent shape sent.now received.now) self s.now out.old }
+    ) -> Result<ParticipantAfter, Question>
+        ensures answer { by_number result ≡ answer_with (receive_question (lent shape sent.now received.now) self s.now out.old) (record { state = state_after (lent shape sent.now received.now) self s.now out.old; lengths = lengths_after (lent shape sent.now received.now) self s.now out.old }) }
         ensures out_after { out.new ≡ bytes_after (lent shape sent.now received.now) self s.now out.old }
     {
-        let question = tables::question(shape, sent, received);
-        if question != 0 {
-            return self.refused(question);
-        }
+        tables::check(shape, sent, received)?;
         let rows = book::rows_of(shape);
-        let question = self.state_question(rows, sent, received);
-        if question != 0 {
-            return self.refused(question);
-        }
+        self.state_question(rows, sent, received)?;
         let me = self.me;
         let initiator = self.initiator;
         let read = message::read_message(s, shape.n, me, initiator);
-        let question = self.message_question(read);
-        if question != 0 {
-            return self.refused(question);
-        }
-        let message = read.message;
+        let message = self.message_question(read)?;
         let next = self.step(rows, sent, received, message);
         let outgoing = next.outgoing;
-        let done = mail::send(outgoing, out);
-        if done.question != 0 {
-            return self.refused(done.question);
-        }
+        let lengths = mail::send(outgoing, out)?;
         let state = next.state;
-        let lengths = done.lengths;
-        ParticipantAnswer {
-            answer: Answer::Accepted,
-            state,
-            lengths,
-        }
+        Ok(ParticipantAfter { state, lengths })
     }
 }

@@ -9,7 +9,7 @@ use lib.Dec.{eqb}
 use Rattle.book.specs.declared.Count.{Count}
 use Rattle.lists.proofs.Over.{get_d_tab}
 use Rattle.consistency.specs.Known.{counters}
-use Rattle.matrix.specs.Matrix.{as_matrix, entry, row}
+use Rattle.matrix.specs.Matrix.{as_matrix, entry}
 use Rattle.matrix.specs.Entries.{differing, diff, patch}
 use Rattle.matrix.proofs.Rows.{row_is, row_length, counter_of_row, entry_of_matrix}
 use Rattle.matrix.proofs.Theorems.{diff_at, patch_diff_at}

@@ -5,12 +5,9 @@ use Prim.Native.Nat.{ℕ}
 use Rattle.book.specs.Lent.{Tables}
 use Rattle.book.specs.InTurn.{ask}
 use Rattle.book.specs.Check.{tables_question}
-use Rattle.book.proofs.Questions.{then_passed, then_refused, ask_no, kept_refused}
-use Rattle.line_theory.specs.OfTables.{view_of}
+use Rattle.book.proofs.Questions.{then_passed, then_refused, ask_no}
 use Rattle.book.specs.Names.{is_purpose}
-use Rattle.restart.specs.Plan.{planned}
-use Rattle.restart.specs.Values.{order_of}
-use Rattle.restart.specs.Calls.{no_order, move_question, order_given}
+use Rattle.restart.specs.Calls.{move_question}
 
 module _ (t : Tables) (purpose : ℕ) where
   pub tables_refused : (question : ℕ) → question ≡ tables_question t → (question ≡ 0 → ⊥) → question ≡ move_question t purpose
@@ -21,9 +18,3 @@ module _ (t : Tables) (purpose : ℕ) where
   unfolding move_question
   purpose_refused none h =
       sym (then_passed (tables_question t) (λ _. ask 11 (is_purpose purpose)) none ∙ ask_no 11 (is_purpose purpose) h)
-
-  -- the order beside a refusal
-  pub order_refused : (move_question t purpose ≡ 0 → ⊥) → no_order ≡ order_given t purpose
-  unfolding order_given
-  order_refused h =
-      sym (kept_refused (move_question t purpose) no_order (order_of t.shape.n (planned (view_of t) purpose)) h)

@@ -5,7 +5,8 @@ ghost use Rattle.std.specs.Prelude.{◌≡◌, ◌-◌, ◌≤◌};
 ghost use Rattle.book.specs.Lent.{lent};
 ghost use Rattle.book.specs.Accepted.{AcceptedRows};
 ghost use Rattle.book.specs.View.{count, counter_at};
-ghost use Rattle.book.specs.InTurn.{answer_to};
+ghost use Rattle.book.specs.InTurn.{answer_with, answer_to};
+ghost use Rattle.book.specs.Numbers.{by_number};
 ghost use Rattle.line_theory.specs.OfTables.{view_of};
 ghost use Rattle.lists.specs.Pick.{pick};
 ghost use Rattle.consistency.specs.Set.{chosen};
@@ -14,17 +15,10 @@ ghost use Rattle.matrix.specs.Matrix.{entry};
 ghost use Rattle.finder.specs.Line.{checkpoints};
 ghost use Rattle.restart.specs.Plan.{advances, restarts, line_checkpoint, first_missing, last_missing, planned};
 ghost use Rattle.restart.specs.Values.{present, numbers, rows_of, plan_of};
-ghost use Rattle.restart.specs.Calls.{no_resend, no_order, move_question, order_given};
+ghost use Rattle.restart.specs.Calls.{move_question, order_given};
 
-use book::{Answer, Checkpoint, Count, Counter, Process, Shape, TableRows};
+use book::{Checkpoint, Count, Counter, Process, Question, Shape, TableRows};
 use restart::{Order, Plan, Resend, TakenOff};
-
-// The answer of `restart_order`; beside a refusal all numbers are zero.
-#[derive(Clone, Copy)]
-pub struct OrderAnswer {
-    pub answer: Answer,
-    pub order: Order,
-}
 
 // With purpose 1 or 3 the line becomes the oldest.
 fn advances(purpose: u64) -> bool
@@ -40,38 +34,14 @@ fn restarts(purpose: u64) -> bool
     purpose == 2 || purpose == 3
 }
 
-// Nothing to send again.
-fn no_resend() -> Resend
-    ensures { result ≡ no_resend }
-{
-    Resend {
-        first: [Count(0); 256],
-        last: [Count(0); 256],
-    }
-}
-
-// The order beside a refusal.
-pub fn no_order() -> Order
-    ensures { result ≡ no_order }
-{
-    Order {
-        from: [Checkpoint(0); 16],
-        before: [0; 16],
-        after: [0; 16],
-        resend: no_resend(),
-    }
-}
-
 // Checkpoint 1 of every process.
 fn oldest_set(n: usize) -> [Checkpoint; 16]
     requires { n ≤ 16 }
     ensures { result ≡ checkpoints (present n (λ _. 1)) }
 {
     let mut set = [Checkpoint(0); 16];
-    let mut j = 0;
-    while j < n {
+    for j in 0..n {
         set[j] = Checkpoint(1);
-        j += 1;
     }
     set
 }
@@ -126,12 +96,10 @@ fn order_to(shape: Shape, line: [Checkpoint; 16], purpose: u64, resend: Resend) 
     let counts = shape.counts;
     let mut before = [0usize; 16];
     let mut after = [0usize; 16];
-    let mut j = 0;
-    while j < n {
+    for j in 0..n {
         let r = line[j];
         before[j] = r.0 - 1;
         after[j] = go_after(purpose, counts[j], r);
-        j += 1;
     }
     Order {
         from: line,
@@ -149,10 +117,8 @@ fn kept_from(shape: Shape, line: [Checkpoint; 16], purpose: u64) -> [usize; 16]
     let n = shape.n;
     let counts = shape.counts;
     let mut kept = [0usize; 16];
-    let mut j = 0;
-    while j < n {
+    for j in 0..n {
         kept[j] = are_kept(purpose, counts[j], line[j]);
-        j += 1;
     }
     kept
 }
@@ -167,12 +133,10 @@ fn line_rows(rows: TableRows, table: &[Counter], line: [Checkpoint; 16]) -> [Cou
     let n = shape.n;
     let first = rows.first;
     let mut held = [Count(0); 256];
-    let mut i = 0;
-    while i < n * book::ROW_WIDTH {
+    for i in 0..n * book::ROW_WIDTH {
         let j = i / book::ROW_WIDTH;
         let p = i % book::ROW_WIDTH;
         held[i] = book::counter(table, first[j], line[j], Process(p + 1));
-        i += 1;
     }
     held
 }
@@ -183,12 +147,10 @@ fn by_sender(n: usize, received: [Count; 256]) -> [Count; 256]
     ensures { result ≡ rows_of n (λ a b. entry received b a) }
 {
     let mut sent = [Count(0); 256];
-    let mut i = 0;
-    while i < n * book::ROW_WIDTH {
+    for i in 0..n * book::ROW_WIDTH {
         let a = i / book::ROW_WIDTH;
         let b = i % book::ROW_WIDTH;
         sent[i] = received[b * book::ROW_WIDTH + a];
-        i += 1;
     }
     sent
 }
@@ -221,27 +183,27 @@ fn resend_from(n: usize, received: [Count; 256], sent: [Count; 256]) -> Resend
 {
     let mut first = [Count(0); 256];
     let mut last = [Count(0); 256];
-    let mut i = 0;
-    while i < n * book::ROW_WIDTH {
+    for i in 0..n * book::ROW_WIDTH {
         first[i] = first_missing(received[i], sent[i]);
         last[i] = last_missing(received[i], sent[i]);
-        i += 1;
     }
     Resend { first, last }
 }
 
-// The first question of a move that fails: of the tables, then 11; 0 for none.
-pub fn question(shape: Shape, sent: &[Counter], received: &[Counter], purpose: u64) -> u32
-    ensures { result ≡ move_question (lent shape sent.now received.now) purpose }
+// The questions of a move: of the tables, then 11.
+pub fn question(
+    shape: Shape,
+    sent: &[Counter],
+    received: &[Counter],
+    purpose: u64,
+) -> Result<(), Question>
+    ensures { by_number result ≡ answer_to (move_question (lent shape sent.now received.now) purpose) }
 {
-    let question = tables::question(shape, sent, received);
-    if question != 0 {
-        return question;
-    }
+    tables::check(shape, sent, received)?;
     if !book::is_purpose(purpose) {
-        return 11;
+        return Err(Question::Purpose);
     }
-    0
+    Ok(())
 }
 
 // The plan of a move. Inner: asks for the rows of accepted tables.
@@ -275,22 +237,11 @@ pub fn restart_order(
     sent: &[Counter],
     received: &[Counter],
     purpose: u64,
-) -> OrderAnswer
-    ensures answer_value { result.answer ≡ answer_to (move_question (lent shape sent.now received.now) purpose) }
-    ensures order_value { result.order ≡ order_given (lent shape sent.now received.now) purpose }
+) -> Result<Order, Question>
+    ensures { by_number result ≡ answer_with (move_question (lent shape sent.now received.now) purpose) (order_given (lent shape sent.now received.now) purpose) }
 {
-    let question = question(shape, sent, received, purpose);
-    if question != 0 {
-        return OrderAnswer {
-            answer: Answer::Refused(question),
-            order: no_order(),
-        };
-    }
+    question(shape, sent, received, purpose)?;
     let rows = book::rows_of(shape);
     let plan = plan_move(rows, sent, received, purpose);
-    let order = plan.order;
-    OrderAnswer {
-        answer: Answer::Accepted,
-        order,
-    }
+    Ok(plan.order)
 }

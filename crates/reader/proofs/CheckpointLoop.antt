@@ -1,4 +1,5 @@
 -- The loop over one process's checkpoints.
+use Rattle.std.specs.Prelude.{Result, Ok, Err}
 use mathlib.Core.Path.{◌≡◌, refl, sym, ap, ap₂, ◌∙◌}
 use mathlib.Core.Bool.{Bool, false}
 use mathlib.Core.List.{List, ◌++◌}
@@ -11,17 +12,19 @@ use lib.ListN.{length, take, drop, replicate-append-replicate}
 use lib.Seq.{length-take-le, take-take, take-add, drop-drop}
 use lib.Dec.{eqb}
 use Rattle.varint.specs.Sequence.{Numbers, numbers_after}
+use Rattle.book.specs.declared.Question.{Question}
 use Rattle.book.specs.Bounds.{mark}
+use Rattle.book.specs.Numbers.{number}
 use Rattle.book.specs.InTurn.{◌then◌}
 use Rattle.book.specs.Layout.{width}
 use Rattle.book.specs.Along.{counters_question, sent_zeros, received_zeros, checkpoints_question, process_question}
 use Rattle.book.proofs.Asked.{counters_long, checkpoint_halves}
 use Rattle.book.proofs.Questions.{then_passed, then_refused, then_assoc}
 use Rattle.book.proofs.Rows.{drop_take}
-use Rattle.reader.specs.declared.Step.{Step}
 use Rattle.book.specs.Before.{counters_before}
 use Rattle.book.specs.Read.{numbers_from}
-use Rattle.reader.specs.Parts.{RowClear, RowsClear, RowTaken, CheckpointsTaken}
+use Rattle.reader.specs.Parts.{RowClear, RowsClear, RowTaken, CheckpointsTaken, failed}
+use Rattle.reader.proofs.Answers.{fails, gives_none, same_value}
 use Rattle.reader.proofs.CounterLoop.{length_before}
 use Rattle.reader.proofs.RowTurns.{others_put}
 use Rattle.reader.proofs.ProcessRows.{Rows, rows_begun, rows_length, rows_fit, rows_more, rows_ended}
@@ -61,12 +64,12 @@ abbrev both_before : ℕ → ℕ → ℕ → ℕ → List ℕ → List ℕ → L
 both_before n j first r sent received = row_before n j first r sent ++ row_before n j first r received
 
 -- a row was taken: it has all its counters, and it is the row before the next
-module _ (oldest zeros : Bool) (n j row : ℕ) (table table' s : List ℕ) (at : ℕ) (step : Step) (fits : RowClear oldest n j (row * 16) table)
-    (did : RowTaken oldest zeros n j (row * 16) s at step table table') (z : step.question ≡ 0) where
+module _ (oldest zeros : Bool) (n j row : ℕ) (table table' s : List ℕ) (at : ℕ) (r : Result ℕ Question) (fits : RowClear oldest n j (row * 16) table)
+    (did : RowTaken oldest zeros n j (row * 16) s at r table table') (next : ℕ) (z : r ≡ Ok next) where
   row_long : length (take (n - 1) (list_from s at)) ≡ n - 1
   row_long =
       length-take-le (n - 1) (list_from s at)
-      (rw (length_before oldest n j (row * 16) table fits) at (counters_long mark zeros (counters_before oldest n j (row * 16) table) (list_from s at) (sym did.asked ∙ z)))
+      (rw (length_before oldest n j (row * 16) table fits) at (counters_long mark zeros (counters_before oldest n j (row * 16) table) (list_from s at) (sym did.asked ∙ ap failed z)))
 
   row_short : length (take (n - 1) (list_from s at)) < 16
   row_short = omega (arith, row_long, fits.present, fits.most)
@@ -75,7 +78,7 @@ module _ (oldest zeros : Bool) (n j row : ℕ) (table table' s : List ℕ) (at :
   unfolding counters_before
   row_next =
       let here : (row + 1) * 16 - 16 ≡ row * 16 = omega arith in
-      rw (here, did.read z)
+      rw (here, did.read next z)
       (others_put n j (row * 16) (take (n - 1) (list_from s at)) table fits.present fits.most row_long (omega (arith, fits.inside, fits.whole)))
 
 -- r checkpoints are taken: their rows stand in both tables, and what is left to ask is asked of the numbers that follow
@@ -116,7 +119,7 @@ module _ (n j first count : ℕ) (s : List ℕ) (at : ℕ) (sent₀ received₀ 
     pub received_fits : RowClear (eqb r 0) n j ((first + r) * 16) received
     received_fits = rows_fit _ _ _ _ _ _ _ _ _ _ inv.received_rows fits' h
 
-    module _ (zeros : Bool) (asks : zeros ≡ sent_zeros (eqb r 0)) (one : Step) (sent' : List ℕ)
+    module _ (zeros : Bool) (asks : zeros ≡ sent_zeros (eqb r 0)) (one : Result ℕ Question) (sent' : List ℕ)
         (did : RowTaken (eqb r 0) zeros n j ((first + r) * 16) s next one sent sent') where
       -- the questions after those of the sent counters
       after_sent : Unit {0} → ℕ
@@ -124,7 +127,7 @@ module _ (n j first count : ℕ) (s : List ℕ) (at : ℕ) (sent₀ received₀ 
           counters_question mark (received_zeros (eqb r 0)) (row_before n j first r received) (drop (n - 1) (list_from s next))
           then λ _. question_after n (count - (r + 1)) (list_from s next)
 
-      of_sent : process_question mark n count (list_from s at) ≡ (one.question then after_sent)
+      of_sent : process_question mark n count (list_from s at) ≡ (failed one then after_sent)
       unfolding after_sent
       of_sent =
           let more : count - r ≡ suc (count - (r + 1)) = omega arith in
@@ -137,39 +140,47 @@ module _ (n j first count : ℕ) (s : List ℕ) (at : ℕ) (sent₀ received₀ 
           ∙ ap (λ (z : Bool). counters_question mark z (row_before n j first r sent) (list_from s next) then after_sent) (sym asks)
           ∙ ap (λ (q : ℕ). q then after_sent) (sym did.asked)
 
-      refused : (step : Step) (sent₁ received₁ : List ℕ) → step.question ≡ process_question mark n count (list_from s at)
-          → (step.question ≡ 0 → ⊥) → CheckpointsTaken n j first count s at step sent₀ received₀ sent₁ received₁
-      refused step sent₁ received₁ e z =
-          record { asked = e; rest = λ w. absurd (z w); sent_read = λ w. absurd (z w); received_read = λ w. absurd (z w) }
+      refused : (answer : Result ℕ Question) {e : Question} (sent₁ received₁ : List ℕ) → answer ≡ Err e
+          → number e ≡ process_question mark n count (list_from s at)
+          → CheckpointsTaken n j first count s at answer sent₀ received₀ sent₁ received₁
+      refused answer sent₁ received₁ er is =
+          record {
+            asked = ap failed er ∙ is;
+            rest = λ _ w. absurd (gives_none er w);
+            sent_read = λ _ w. absurd (gives_none er w);
+            received_read = λ _ w. absurd (gives_none er w);
+          }
 
-      pub sent_refused : (one.question ≡ 0 → ⊥) → CheckpointsTaken n j first count s at one sent₀ received₀ sent' received
-      sent_refused z = refused one sent' received (sym (of_sent ∙ then_refused _ _ z)) z
+      pub sent_refused : (answer : Result ℕ Question) {e : Question} → one ≡ Err e → answer ≡ Err e
+          → CheckpointsTaken n j first count s at answer sent₀ received₀ sent' received
+      sent_refused answer z er = refused answer sent' received er (sym (of_sent ∙ then_refused _ _ (fails z) ∙ ap failed z))
 
-      module _ (z : one.question ≡ 0) (zeros' : Bool) (asks' : zeros' ≡ received_zeros (eqb r 0)) (two : Step) (received' : List ℕ)
-          (did' : RowTaken (eqb r 0) zeros' n j ((first + r) * 16) s one.next two received received') where
-        middle : list_from s one.next ≡ drop (n - 1) (list_from s next)
-        middle = ap (λ (ns : Numbers). ns.found) (did.rest z)
+      module _ (half : ℕ) (z : one ≡ Ok half) (zeros' : Bool) (asks' : zeros' ≡ received_zeros (eqb r 0)) (two : Result ℕ Question) (received' : List ℕ)
+          (did' : RowTaken (eqb r 0) zeros' n j ((first + r) * 16) s half two received received') where
+        middle : list_from s half ≡ drop (n - 1) (list_from s next)
+        middle = ap (λ (ns : Numbers). ns.found) (did.rest half z)
 
-        of_received : process_question mark n count (list_from s at) ≡ (two.question then λ _. question_after n (count - (r + 1)) (list_from s next))
+        of_received : process_question mark n count (list_from s at) ≡ (failed two then λ _. question_after n (count - (r + 1)) (list_from s next))
         unfolding after_sent
         of_received =
-            of_sent ∙ then_passed _ _ z
+            of_sent ∙ then_passed _ _ (ap failed z)
             ∙ ap
             (λ (q : ℕ). q then λ _. question_after n (count - (r + 1)) (list_from s next))
             (sym (did'.asked ∙ ap₂ (λ (z : Bool) (vs : List ℕ). counters_question mark z (row_before n j first r received) vs) asks' middle))
 
-        pub received_refused : (two.question ≡ 0 → ⊥) → CheckpointsTaken n j first count s at two sent₀ received₀ sent' received'
-        received_refused y = refused two sent' received' (sym (of_received ∙ then_refused _ _ y)) y
+        pub received_refused : (answer : Result ℕ Question) {e : Question} → two ≡ Err e → answer ≡ Err e
+            → CheckpointsTaken n j first count s at answer sent₀ received₀ sent' received'
+        received_refused answer y er = refused answer sent' received' er (sym (of_received ∙ then_refused _ _ (fails y) ∙ ap failed y))
 
         -- a checkpoint more
-        module _ (y : two.question ≡ 0) where
-          on : numbers_from s two.next ≡ numbers_after (width n) (numbers_from s next)
+        module _ (after : ℕ) (y : two ≡ Ok after) where
+          on : numbers_from s after ≡ numbers_after (width n) (numbers_from s next)
           on =
               let both : n - 1 + (n - 1) ≡ width n = omega arith in
-              did'.rest y ∙ ap (numbers_after (n - 1)) (did.rest z) ∙ after_after (n - 1) (n - 1) (numbers_from s next)
+              did'.rest after y ∙ ap (numbers_after (n - 1)) (did.rest half z) ∙ after_after (n - 1) (n - 1) (numbers_from s next)
               ∙ ap (λ (k : ℕ). numbers_after k (numbers_from s next)) both
 
-          left : list_from s two.next ≡ drop (width n) (list_from s next)
+          left : list_from s after ≡ drop (width n) (list_from s next)
           left = ap (λ (ns : Numbers). ns.found) on
 
           -- the rows just put are those before the next
@@ -179,17 +190,17 @@ module _ (n j first count : ℕ) (s : List ℕ) (at : ℕ) (sent₀ received₀ 
               let place : (first + (r + 1)) * 16 ≡ (first + r + 1) * 16 = omega arith in
               let both : n - 1 + (n - 1) ≡ width n = omega arith in
               ap₂ (λ (o : Bool) (k : ℕ). counters_before o n j k sent' ++ counters_before o n j k received') later place
-              ∙ ap₂ (λ (a b : List ℕ). a ++ b) (row_next (eqb r 0) zeros n j (first + r) sent sent' s next one sent_fits did z)
-              (row_next (eqb r 0) zeros' n j (first + r) received received' s one.next two received_fits did' y ∙ ap (take (n - 1)) middle)
+              ∙ ap₂ (λ (a b : List ℕ). a ++ b) (row_next (eqb r 0) zeros n j (first + r) sent sent' s next one sent_fits did half z)
+              (row_next (eqb r 0) zeros' n j (first + r) received received' s half two received_fits did' after y ∙ ap (take (n - 1)) middle)
               ∙ sym (take-add (n - 1) (n - 1) (list_from s next))
               ∙ ap (λ (k : ℕ). take k (list_from s next)) both
 
-          pub passed_more : Passed n j first count s at sent₀ received₀ sent' received' two.next (r + 1)
+          pub passed_more : Passed n j first count s at sent₀ received₀ sent' received' after (r + 1)
           passed_more =
               let vs : List ℕ = list_from s next in
               let sent_half : take (n - 1) (take (width n) vs) ≡ take (n - 1) vs = take-take (n - 1) (width n) vs (omega arith) in
               let both : width n ≡ n - 1 + (n - 1) = omega arith in
-              let received_half : drop (n - 1) (take (width n) vs) ≡ take (n - 1) (list_from s one.next) =
+              let received_half : drop (n - 1) (take (width n) vs) ≡ take (n - 1) (list_from s half) =
               ap (λ (k : ℕ). drop (n - 1) (take k vs)) both ∙ drop_take (n - 1) (n - 1) vs ∙ ap (take (n - 1)) (sym middle) in
               let places : r * width n + width n ≡ (r + 1) * width n = rw (add-one r) (sym (suc-mul r (width n))) in
               let later : eqb (r + 1) 0 ≡ false = ne_eqb (r + 1) 0 (λ e. omega arith) in
@@ -197,20 +208,20 @@ module _ (n j first count : ℕ) (s : List ℕ) (at : ℕ) (sent₀ received₀ 
                 within = omega arith;
                 sent_rows =
                     rw left
-                    (rows_more _ _ _ _ _ _ _ _ _ _ inv.sent_rows (take (n - 1) vs) sent' h sent_half (row_short (eqb r 0) zeros n j (first + r) sent sent' s next one sent_fits did z) (did.read z));
+                    (rows_more _ _ _ _ _ _ _ _ _ _ inv.sent_rows (take (n - 1) vs) sent' h sent_half (row_short (eqb r 0) zeros n j (first + r) sent sent' s next one sent_fits did half z) (did.read half z));
                 received_rows =
                     rw left
-                    (rows_more _ _ _ _ _ _ _ _ _ _ inv.received_rows (take (n - 1) (list_from s one.next)) received' h received_half (row_short (eqb r 0) zeros' n j (first + r) received received' s one.next two received_fits did' y) (did'.read y));
+                    (rows_more _ _ _ _ _ _ _ _ _ _ inv.received_rows (take (n - 1) (list_from s half)) received' h received_half (row_short (eqb r 0) zeros' n j (first + r) received received' s half two received_fits did' after y) (did'.read after y));
                 rest = on ∙ ap (numbers_after (width n)) inv.rest ∙ after_after (r * width n) (width n) (numbers_from s at)
                     ∙ ap (λ (k : ℕ). numbers_after k (numbers_from s at)) places;
-                asked = of_received ∙ then_passed _ _ y
+                asked = of_received ∙ then_passed _ _ (ap failed y)
                     ∙ ap₂ (λ (bs vs' : List ℕ). checkpoints_question mark n false bs (count - (r + 1)) vs') (sym before_now) (sym left)
                     ∙ ap
-                    (λ (o : Bool). checkpoints_question mark n o (both_before n j first (r + 1) sent' received') (count - (r + 1)) (list_from s two.next)) (sym later);
+                    (λ (o : Bool). checkpoints_question mark n o (both_before n j first (r + 1) sent' received') (count - (r + 1)) (list_from s after)) (sym later);
               }
 
   -- all are taken
-  pub passed_ended : count ≤ r → CheckpointsTaken n j first count s at (record { question = 0; next = next }) sent₀ received₀ sent received
+  pub passed_ended : count ≤ r → CheckpointsTaken n j first count s at (Ok next) sent₀ received₀ sent received
   passed_ended h =
       let all : r ≡ count = omega (arith, inv.within) in
       let none : count - r ≡ 0 = omega arith in
@@ -218,7 +229,7 @@ module _ (n j first count : ℕ) (s : List ℕ) (at : ℕ) (sent₀ received₀ 
         asked = sym
             (inv.asked ∙ ap (λ (m : ℕ). checkpoints_question mark n (eqb r 0) (both_before n j first r sent received) m (list_from s next)) none
             ∙ checkpoints_none n (eqb r 0) (both_before n j first r sent received) (list_from s next));
-        rest = λ _. inv.rest ∙ ap (λ (m : ℕ). numbers_after (m * width n) (numbers_from s at)) all;
-        sent_read = λ _. rows_ended _ _ _ _ _ _ _ _ _ _ inv.sent_rows h;
-        received_read = λ _. rows_ended _ _ _ _ _ _ _ _ _ _ inv.received_rows h;
+        rest = λ _ w. ap (numbers_from s) (sym (same_value w)) ∙ inv.rest ∙ ap (λ (m : ℕ). numbers_after (m * width n) (numbers_from s at)) all;
+        sent_read = λ _ _. rows_ended _ _ _ _ _ _ _ _ _ _ inv.sent_rows h;
+        received_read = λ _ _. rows_ended _ _ _ _ _ _ _ _ _ _ inv.received_rows h;
       }

@@ -1,4 +1,5 @@
 -- The loop over one row's counters.
+use Rattle.std.specs.Prelude.{Some, None, Result, Ok, Err}
 use mathlib.Core.Path.{◌≡◌, refl, sym, ap, ap₂, ◌∙◌}
 use mathlib.Core.Bool.{Bool, true, false}
 use mathlib.Core.List.{List, [], ◌∷◌, ◌++◌}
@@ -7,11 +8,13 @@ use native.Mathlib.Numerals.{add-one}
 use native.Mathlib.Omega.{arith}
 use lib.ListN.{length, take, drop, get_or, set, length-append, length-drop, drop_of_length-le}
 use lib.Seq.{sets, length-sets, take_at, drop_at, drop-cons, append_snoc}
-use Rattle.varint.specs.declared.Numeral.TheVariants.{Number, Refused}
 use Rattle.varint.specs.Number.{read_number}
 use Rattle.varint.specs.Sequence.{Numbers, numbers_after}
 use Rattle.varint.proofs.Sequence.{numbers_none, numbers_more}
+use Rattle.book.specs.declared.Question.{Question}
+use Rattle.book.specs.declared.Question.TheVariants.{Number}
 use Rattle.book.specs.Bounds.{groups, largest, mark}
+use Rattle.book.specs.Numbers.{number}
 use Rattle.book.specs.Before.{entry_before, counters_before}
 use Rattle.book.specs.InTurn.{◌then◌}
 use Rattle.book.specs.Tables.{table_row, partner_column}
@@ -21,7 +24,8 @@ use Rattle.book.proofs.Questions.{then_passed, then_refused}
 use Rattle.book.proofs.Rows.{length_row, column_within}
 use Rattle.book.proofs.Before as rows_before
 use Rattle.book.specs.Read.{numbers_from}
-use Rattle.reader.specs.Parts.{RowClear, RowTaken}
+use Rattle.reader.specs.Parts.{RowClear, RowTaken, failed}
+use Rattle.reader.proofs.Answers.{positive, gives_none, same_value}
 use Rattle.reader.proofs.RowTurns.{row_none, row_put}
 use Rattle.lists.proofs.Stores.{get_d_below}
 use Rattle.reader.proofs.Stores.{clear_same, set_within}
@@ -90,9 +94,11 @@ module _ (oldest zeros : Bool) (n j start : ℕ) (table₀ s : List ℕ) (at : �
       }
 
   -- a question fails: nothing is said of the table
-  refused_row : (next q : ℕ) (table : List ℕ) → q ≡ counters_question mark zeros before (numbers_from s at).found
-      → (q ≡ 0 → ⊥) → RowTaken oldest zeros n j start s at (record { question = q; next = next }) table₀ table
-  refused_row next q table e z = record { asked = e; rest = λ w. absurd (z w); read = λ w. absurd (z w) }
+  refused_row : (r : Result ℕ Question) (e : Question) (table : List ℕ) → r ≡ Err e
+      → number e ≡ counters_question mark zeros before (numbers_from s at).found
+      → RowTaken oldest zeros n j start s at r table₀ table
+  refused_row r e table er is =
+      record { asked = ap failed er ∙ is; rest = λ _ w. absurd (gives_none er w); read = λ _ w. absurd (gives_none er w) }
 
   module _ (next k : ℕ) (table : List ℕ) (inv : Sofar oldest zeros n j start table₀ s at next k table) where
     pub sofar_length : length table ≡ length table₀
@@ -110,15 +116,13 @@ module _ (oldest zeros : Bool) (n j start : ℕ) (table₀ s : List ℕ) (at : �
           ∙ ap (λ (ms : Numbers). counters_question mark zeros (get_or before k 0 ∷ drop (suc k) before) ms.found) e
 
       -- no number stands there
-      pub sofar_short : (next' : ℕ) → read_number groups largest s next ≡ Refused
-          → RowTaken oldest zeros n j start s at (record { question = 3; next = next' }) table₀ table
-      sofar_short next' r =
-          refused_row next' 3 table
+      pub sofar_short : read_number groups largest s next ≡ None → RowTaken oldest zeros n j start s at (Err Number) table₀ table
+      sofar_short r =
+          refused_row (Err Number) Number table refl
           (sym (onward (record { found = []; stop = next }) (numbers_none groups largest s next r)
           ∙ counters_short zeros (get_or before k 0) (drop (suc k) before)))
-          (λ z. omega arith)
 
-      module _ (v after col b q : ℕ) (r : read_number groups largest s next ≡ Number v after) (place : col ≡ partner_column j k)
+      module _ (v after col b q : ℕ) (r : read_number groups largest s next ≡ Some (v, after)) (place : col ≡ partner_column j k)
           (there : b ≡ entry_before oldest (start + col) table) (e : q ≡ counter_question mark zeros b v) where
         same : q ≡ counter_question mark zeros (get_or before k 0) v
         same =
@@ -135,8 +139,10 @@ module _ (oldest zeros : Bool) (n j start : ℕ) (table₀ s : List ℕ) (at : �
             ∙ ap (λ (p : ℕ). p then λ _. counters_question mark zeros (drop (suc k) before) (numbers_from s after).found) (sym same)
 
         -- the counter fails a question
-        pub sofar_refused : (next' : ℕ) → (q ≡ 0 → ⊥) → RowTaken oldest zeros n j start s at (record { question = q; next = next' }) table₀ table
-        sofar_refused next' z = refused_row next' q table (sym (step ∙ then_refused _ _ z)) z
+        pub sofar_refused : (answer : Result ℕ Question) (f : Question) → answer ≡ Err f → q ≡ number f
+            → RowTaken oldest zeros n j start s at answer table₀ table
+        sofar_refused answer f ef is =
+            refused_row answer f table ef (sym is ∙ sym (step ∙ then_refused _ _ (λ z. positive f (sym is ∙ z))))
 
         -- it passes
         pub sofar_more : q ≡ 0 → Sofar oldest zeros n j start table₀ s at after (k + 1) (set table (start + col) v)
@@ -157,15 +163,15 @@ module _ (oldest zeros : Bool) (n j start : ℕ) (table₀ s : List ℕ) (at : �
             }
 
     -- all are asked
-    pub sofar_ended : n - 1 ≤ k → RowTaken oldest zeros n j start s at (record { question = 0; next = next }) table₀ table
+    pub sofar_ended : n - 1 ≤ k → RowTaken oldest zeros n j start s at (Ok next) table₀ table
     sofar_ended h =
         let all : length inv.done ≡ n - 1 = omega (arith, inv.passed, inv.within) in
         let none : drop k before ≡ [] = drop_of_length-le before {i = k} (rw (length_before oldest n j start table₀ fits) h) in
         record {
           asked = sym (inv.asked ∙ ap (λ (bs : List ℕ). counters_question mark zeros bs (numbers_from s next).found) none
               ∙ counters_none zeros (numbers_from s next).found);
-          rest = λ _. sym (ap (numbers_after (n - 1)) inv.found
+          rest = λ v w. ap (numbers_from s) (sym (same_value w)) ∙ sym (ap (numbers_after (n - 1)) inv.found
               ∙ (λ i. record { found = drop_at inv.done (numbers_from s next).found (n - 1) all i; stop = (numbers_from s next).stop }));
-          read = λ _. inv.present ∙ ap (λ (cs : List ℕ). sets table₀ start (table_row j cs))
+          read = λ _ _. inv.present ∙ ap (λ (cs : List ℕ). sets table₀ start (table_row j cs))
               (sym (ap (λ (ns : Numbers). take (n - 1) ns.found) inv.found ∙ take_at inv.done (numbers_from s next).found (n - 1) all));
         }

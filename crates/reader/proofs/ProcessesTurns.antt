@@ -1,4 +1,5 @@
 -- The turns of the loop over a book's processes.
+use Rattle.std.specs.Prelude.{Option, Some, None, Result, Ok, Err}
 use mathlib.Core.Path.{◌≡◌, refl, sym, ap, ap₂, ◌∙◌}
 use mathlib.Core.Bool.{Bool, true, false}
 use mathlib.Core.List.{List, [], ◌∷◌, ◌++◌, append-nil}
@@ -8,13 +9,13 @@ use borrow.Author.Tests.{eq-eqb, ne_eqb}
 use lib.ListN.{length, take, drop, set, replicate, length-append, length-replicate}
 use lib.Seq.{set_at, append_snoc}
 use lib.Dec.{eqb}
-use Rattle.varint.specs.declared.Numeral.{Numeral}
-use Rattle.varint.specs.declared.Numeral.TheVariants.{Number, Refused}
 use Rattle.varint.specs.Number.{read_number}
 use Rattle.varint.specs.Sequence.{Numbers, numbers_after}
 use Rattle.varint.proofs.Reading.{read_past}
 use Rattle.varint.proofs.Sequence.{numbers_none, numbers_more}
 use Rattle.book.specs.declared.Shape.{Shape}
+use Rattle.book.specs.declared.Question.{Question}
+use Rattle.book.specs.declared.Question.TheVariants.{Unused}
 use Rattle.book.specs.Starts.{RowStart}
 use Rattle.book.specs.Bounds.{groups, largest, mark}
 use Rattle.book.specs.Layout.{width, processes_in}
@@ -26,10 +27,8 @@ use Rattle.book.proofs.Rows.{length_in}
 use Rattle.book.proofs.Starts.{starts_carried, start_stored}
 use Rattle.book.proofs.Questions.{then_passed, then_refused, then_assoc}
 use Rattle.book.specs.Read.{numbers_from}
-use Rattle.reader.specs.declared.Counted.{Counted}
-use Rattle.reader.specs.declared.Checked.{Checked}
-use Rattle.reader.specs.Parts.{whole_from, empty_table, refusal, next_process, RowsClear, ProcessTaken, ProcessesTaken, processes_after}
-use Rattle.reader.proofs.Answers.{taken_refused, taken_passed}
+use Rattle.reader.specs.Parts.{failed, whole_from, empty_table, next_process, RowsClear, ProcessTaken, ProcessesTaken, processes_after}
+use Rattle.reader.proofs.Answers.{fails, taken_refused, taken_passed}
 use Rattle.reader.proofs.BookRows.{Rows, rows_begun, rows_length, rows_clear, rows_more, rows_ended, sent_short, received_short}
 
 -- the questions of the next process, then those of the ones after it
@@ -123,33 +122,32 @@ module _ (n : ℕ) (s : List ℕ) (at : ℕ) (sent received counts : List ℕ) (
     received_clear = rows_clear _ _ _ _ _ _ _ inv.received_rows h most
         inv.few
 
-    module _ (r : Counted) (sent' received' : List ℕ) (did : ProcessTaken n j sum s next r sent received sent' received') where
+    module _ (r : Result (ℕ × ℕ) Question) (sent' received' : List ℕ) (did : ProcessTaken n j sum s next r sent received sent' received') where
       counts_long : j < length counts
       counts_long = omega (arith, ap length inv.present ∙ length-append inv.done (replicate (16 - j) 0), inv.passed, length-replicate {A = ℕ} (16 - j) 0)
 
       more : n - j ≡ suc (n - (j + 1))
       more = omega arith
 
-      pub met_refused : (a : Checked) → a ≡ refusal r.question → (r.question ≡ 0 → ⊥) → ProcessesTaken n s at a sent' received'
-      met_refused a ea z =
-          taken_refused _ _ _ _ sent' received' r.question a ea
-          (processes_refused n (n - (j + 1)) sum (whole_from s next) (numbers_from s next).found r.question did.asked z
+      pub met_refused : (a : Result Shape Question) {e : Question} → r ≡ Err e → a ≡ Err e → ProcessesTaken n s at a sent' received'
+      met_refused a {e} was ea =
+          taken_refused _ _ _ _ sent' received' a e ea
+          (sym (ap failed was)
+          ∙ processes_refused n (n - (j + 1)) sum (whole_from s next) (numbers_from s next).found (failed r) did.asked (fails was)
           ∙ sym (inv.asked ∙ ap (λ (m : ℕ). processes_question mark n m sum (whole_from s next) (numbers_from s next).found) more))
-          z
 
-      pub met_more : r.question ≡ 0 → Met n s at sent' received' (set counts j r.count) (sum + r.count) r.next (j + 1)
-      met_more z =
-          let c : ℕ = r.count in
-          let go : numbers_from s r.next ≡ numbers_after (suc (c * width n)) (numbers_from s next) = did.rest z in
-          let on : whole_from s next ≡ whole_from s r.next = ap (λ (ns : Numbers). eqb ns.stop (length s)) (sym go) in
+      pub met_more : (c after : ℕ) → r ≡ Ok (c, after) → Met n s at sent' received' (set counts j c) (sum + c) after (j + 1)
+      met_more c after z =
+          let go : numbers_from s after ≡ numbers_after (suc (c * width n)) (numbers_from s next) = did.rest c after z in
+          let on : whole_from s next ≡ whole_from s after = ap (λ (ns : Numbers). eqb ns.stop (length s)) (sym go) in
           let vs : List ℕ = drop 1 (numbers_from s next).found in
-          let left : (numbers_from s r.next).found ≡ drop (c * width n) vs =
-          ap (λ (ns : Numbers). ns.found) go ∙ ap (drop (suc (c * width n))) (did.head z) in
+          let left : (numbers_from s after).found ≡ drop (c * width n) vs =
+          ap (λ (ns : Numbers). ns.found) go ∙ ap (drop (suc (c * width n))) (did.head c after z) in
           let zeros : replicate {A = ℕ} (16 - j) 0 ≡ 0 ∷ replicate (16 - (j + 1)) 0 =
           let e : 16 - j ≡ suc (16 - (j + 1)) = omega arith in rw e in
           record {
             within = omega arith;
-            few = (did.within z).1;
+            few = (did.within c after z).1;
             start = start_stored counts j sum c counts_long inv.start;
             done = inv.done ++ (c ∷ []);
             passed = length-append inv.done (c ∷ []) ∙ ap (λ (m : ℕ). m + 1) inv.passed;
@@ -157,19 +155,19 @@ module _ (n : ℕ) (s : List ℕ) (at : ℕ) (sent received counts : List ℕ) (
                 ∙ set_at inv.done 0 (replicate (16 - (j + 1)) 0) c j inv.passed ∙ sym (append_snoc inv.done c (replicate (16 - (j + 1)) 0));
             ended = inv.ended ∙ on;
             asked = inv.asked ∙ ap (λ (m : ℕ). processes_question mark n m sum (whole_from s next) (numbers_from s next).found) more
-                ∙ processes_next n (n - (j + 1)) sum (whole_from s next) (numbers_from s next).found c (did.head z)
-                ∙ then_passed _ _ (sym did.asked ∙ z)
+                ∙ processes_next n (n - (j + 1)) sum (whole_from s next) (numbers_from s next).found c (did.head c after z)
+                ∙ then_passed _ _ (sym did.asked ∙ ap failed z)
                 ∙ ap₂ (λ (e : Bool) (ns : Numbers). processes_question mark n (n - (j + 1)) (sum + c) e ns.found) on (sym go);
             listed = inv.listed ∙ ap (λ (m : ℕ). inv.done ++ counts_of (processes_in m (width n) (numbers_from s next).found)) more
-                ∙ ap (λ (l : List ℕ). inv.done ++ l) (counts_next (n - (j + 1)) (width n) (numbers_from s next).found c (did.head z))
+                ∙ ap (λ (l : List ℕ). inv.done ++ l) (counts_next (n - (j + 1)) (width n) (numbers_from s next).found c (did.head c after z))
                 ∙ sym (append_snoc inv.done c _)
                 ∙ ap (λ (ns : Numbers). (inv.done ++ (c ∷ [])) ++ counts_of (processes_in (n - (j + 1)) (width n) ns.found)) (sym go);
             sent_rows =
                 rw left
-                (rows_more _ _ _ _ _ _ _ inv.sent_rows c vs sent' h (did.head z) (sent_short n most) (did.enough z) (did.sent_read z));
+                (rows_more _ _ _ _ _ _ _ inv.sent_rows c vs sent' h (did.head c after z) (sent_short n most) (did.enough c after z) (did.sent_read c after z));
             received_rows =
                 rw left
-                (rows_more _ _ _ _ _ _ _ inv.received_rows c vs received' h (did.head z) (received_short n most) (did.enough z) (did.received_read z));
+                (rows_more _ _ _ _ _ _ _ inv.received_rows c vs received' h (did.head c after z) (received_short n most) (did.enough c after z) (did.received_read c after z));
           }
 
 -- nothing follows exactly where the bytes end
@@ -181,10 +179,10 @@ nothing_left s next e =
 something_left : (s : List ℕ) (next : ℕ) → (next ≡ length s → ⊥) → nothing_follows (whole_from s next) (numbers_from s next).found ≡ false
 something_left s next z = go (read_number groups largest s next) refl
   where
-    go : (r : Numeral) → read_number groups largest s next ≡ r → nothing_follows (whole_from s next) (numbers_from s next).found ≡ false
-    go (Number v after) e = ap (λ (ns : Numbers). nothing_follows (eqb ns.stop (length s)) ns.found)
+    go : (r : Option (ℕ × ℕ)) → read_number groups largest s next ≡ r → nothing_follows (whole_from s next) (numbers_from s next).found ≡ false
+    go (Some (v, after)) e = ap (λ (ns : Numbers). nothing_follows (eqb ns.stop (length s)) ns.found)
         (numbers_more groups largest s next v after e)
-    go Refused e = ap (λ (ns : Numbers). nothing_follows (eqb ns.stop (length s)) ns.found) (numbers_none groups largest s next e)
+    go None e = ap (λ (ns : Numbers). nothing_follows (eqb ns.stop (length s)) ns.found) (numbers_none groups largest s next e)
         ∙ ne_eqb next (length s) z
 
 module _ (n : ℕ) (s : List ℕ) (at : ℕ) (sent received counts : List ℕ) (sum next j : ℕ) (inv : Met n s at sent received counts sum next j)
@@ -197,8 +195,8 @@ module _ (n : ℕ) (s : List ℕ) (at : ℕ) (sent received counts : List ℕ) (
       inv.asked ∙ ap (λ (m : ℕ). processes_question mark n m sum (whole_from s next) (numbers_from s next).found) last
       ∙ processes_none n sum (whole_from s next) (numbers_from s next).found
 
-  pub met_more_follows : (a : Checked) → a ≡ refusal 9 → (next ≡ length s → ⊥) → ProcessesTaken n s at a sent received
-  met_more_follows a ea z = taken_refused _ _ _ _ sent received 9 a ea (sym (end ∙ ap (ask 9) (something_left s next z))) (λ w. omega arith)
+  pub met_more_follows : (next ≡ length s → ⊥) → ProcessesTaken n s at (Err Unused) sent received
+  met_more_follows z = taken_refused _ _ _ _ sent received (Err Unused) Unused refl (sym (end ∙ ap (ask 9) (something_left s next z)))
 
   shape : ◌≡◌ {A = Shape} (record { n = n; counts = counts }) (shape_of (record { n = n; processes = processes_after n s at }))
   shape =
@@ -209,7 +207,7 @@ module _ (n : ℕ) (s : List ℕ) (at : ℕ) (sent received counts : List ℕ) (
       inv.present ∙ ap (λ (m : ℕ). inv.done ++ replicate (16 - m) 0) (sym inv.passed) ∙ ap (padded 16) (sym all) in
       λ i. record { n = n; counts = e i }
 
-  pub met_ended : next ≡ length s → ProcessesTaken n s at (record { question = 0; shape = record { n = n; counts = counts } }) sent received
+  pub met_ended : next ≡ length s → ProcessesTaken n s at (Ok (record { n = n; counts = counts })) sent received
   met_ended e =
       taken_passed _ _ _ _ sent received (record { n = n; counts = counts }) (end ∙ ap (ask 9) (nothing_left s next e)) shape
       (rows_ended _ _ _ _ _ _ _ inv.sent_rows h inv.few)

@@ -4,17 +4,12 @@ use mathlib.Core.List.{List}
 use Prim.Native.Nat.{ℕ}
 use lib.ListN.{length}
 use Rattle.book.specs.Lent.{Tables, lent}
-use Rattle.book.specs.declared.Answer.{Answer}
 use Rattle.book.specs.declared.Shape.{Shape}
-use Rattle.book.specs.declared.WriteAnswer.{WriteAnswer}
-use Rattle.book.specs.declared.WriteAnswer.TheVariants.{Length, Refused}
-use Rattle.book.specs.InTurn.{answer_to}
 use Rattle.book.specs.Check.{tables_question}
-use Rattle.book.specs.Tables.{sent_table, received_table}
+use Rattle.book.specs.Tables.{shape_of, sent_table, received_table}
 use Rattle.book.specs.Read.{book_read, read_question, shape_read, sent_read, received_read}
-use Rattle.book.specs.Write as inner
-use Rattle.book.specs.Write.{bytes_of, write_question, bytes_written, length_or}
-use Rattle.words.specs.Plain.{number_of, shape_in, shape_words}
+use Rattle.book.specs.Write.{bytes_of, write_question, bytes_written}
+use Rattle.words.specs.Plain.{shape_in, shape_words}
 use Rattle.recovery_line.specs.Books.{shape_question, read_answer, read_shape, read_sent, read_received, check_answer, write_answer, write_out, write_length}
 use Rattle.recovery_line.proofs.Shells.{wrong, asked}
 use Rattle.recovery_line.proofs.BytesTaken.{taken_wrong, taken_refused, taken_whole}
@@ -34,25 +29,24 @@ module _ (bytes shape sent received : List ℕ) {q : ℕ} (same : q ≡ shape_qu
   question = read_question bytes sent received
 
   pub read_wrong : (q ≡ 0 → ⊥) → Read q shape sent received
-  unfolding read_answer read_shape read_sent read_received sent_read received_read
+  unfolding read_answer read_shape read_sent read_received shape_read sent_read received_read
   read_wrong =
-      taken_wrong question (shape_read bytes sent received) (sent_table (book_read bytes)) (received_table (book_read bytes)) shape sent received same
+      taken_wrong question (shape_of (book_read bytes)) (sent_table (book_read bytes)) (received_table (book_read bytes)) shape sent received same
 
-  module _ (none : q ≡ 0) {answer : Answer} {r : ℕ} (number : r ≡ number_of answer) (answers : answer ≡ answer_to question)
-      {sent' received' : List ℕ} (left : sent' ≡ sent_read bytes sent received) (left' : received' ≡ received_read bytes sent received)
+  module _ (none : q ≡ 0) {r : ℕ} (of_call : r ≡ question) {sent' received' : List ℕ} (left : sent' ≡ sent_read bytes sent received) (left' : received' ≡ received_read bytes sent received)
     where
       pub read_refused : (r ≡ 0 → ⊥) → Read r shape sent' received'
-      unfolding read_answer read_shape read_sent read_received sent_read received_read
+      unfolding read_answer read_shape read_sent read_received shape_read sent_read received_read
       read_refused =
-          taken_refused question (shape_read bytes sent received) (sent_table (book_read bytes)) (received_table (book_read bytes)) shape sent received
-          same none number answers left left'
+          taken_refused question (shape_of (book_read bytes)) (sent_table (book_read bytes)) (received_table (book_read bytes)) shape sent received
+          same none of_call left left'
 
-      pub read_taken : r ≡ 0 → {taken : Shape} → taken ≡ shape_read bytes sent received → {shape' : List ℕ} → shape' ≡ shape_words taken
+      pub read_taken : r ≡ 0 → {taken : Shape} → taken ≡ shape_of (book_read bytes) → {shape' : List ℕ} → shape' ≡ shape_words taken
           → Read 0 shape' sent' received'
-      unfolding read_answer read_shape read_sent read_received sent_read received_read
+      unfolding read_answer read_shape read_sent read_received shape_read sent_read received_read
       read_taken =
-          taken_whole question (shape_read bytes sent received) (sent_table (book_read bytes)) (received_table (book_read bytes)) shape sent received
-          same none number answers left left'
+          taken_whole question (shape_of (book_read bytes)) (sent_table (book_read bytes)) (received_table (book_read bytes)) shape sent received
+          same none of_call left left'
 
 -- ---- check
 
@@ -83,20 +77,22 @@ module _ (shape sent received out : List ℕ) (before : ℕ) {q : ℕ} (same : q
   unfolding write_answer write_out write_length bytes_written
   write_wrong = written_wrong (write_question tables out) (bytes_of tables) shape out before same
 
-  module _ (none : q ≡ 0) {given : Shape} (given_is : given ≡ shape_in shape) {answer : WriteAnswer}
-      (answers : answer ≡ inner.answer_to_write (lent given sent received) out) {out' : List ℕ} (left : out' ≡ bytes_written (lent given sent received) out)
+  module _ (none : q ≡ 0) {given : Shape} (given_is : given ≡ shape_in shape) {r : ℕ} (of_call : r ≡ write_question (lent given sent received) out)
+      {out' : List ℕ} (left : out' ≡ bytes_written (lent given sent received) out)
     where
-      answer_is : answer ≡ length_or (write_question tables out) (length (bytes_of tables))
-      unfolding inner.answer_to_write
-      answer_is = answers ∙ (λ t. inner.answer_to_write (lent (given_is t) sent received) out)
+      question_of : r ≡ write_question tables out
+      question_of = of_call ∙ (λ t. write_question (lent (given_is t) sent received) out)
 
       left_is : out' ≡ bytes_written tables out
       left_is = left ∙ (λ t. bytes_written (lent (given_is t) sent received) out)
 
-      pub write_refused : {r : ℕ} → answer ≡ Refused r → Written r out' before
+      pub write_refused : (r ≡ 0 → ⊥) → Written r out' before
       unfolding write_answer write_out write_length bytes_written
-      write_refused = written_refused (write_question tables out) (bytes_of tables) shape out before same none answer_is left_is
+      write_refused = written_refused (write_question tables out) (bytes_of tables) shape out before same none question_of left_is
 
-      pub write_done : {bytes : ℕ} → answer ≡ Length bytes → {length' : ℕ} → length' ≡ bytes → Written 0 out' length'
+      pub write_done : r ≡ 0 → {bytes : ℕ} → bytes ≡ length (bytes_of (lent given sent received)) → {length' : ℕ} → length' ≡ bytes
+          → Written 0 out' length'
       unfolding write_answer write_out write_length bytes_written
-      write_done = written_done (write_question tables out) (bytes_of tables) shape out before same none answer_is left_is
+      write_done zeroed counted =
+          written_done (write_question tables out) (bytes_of tables) shape out before same none question_of left_is zeroed
+          (counted ∙ (λ t. length (bytes_of (lent (given_is t) sent received))))

@@ -2,12 +2,13 @@
 use mathlib.Core.Path.{◌≡◌, sym, ap, ◌∙◌}
 use mathlib.Core.List.{List}
 use Prim.Native.Nat.{ℕ}
-use Rattle.book.specs.declared.Answer.{Answer}
 use Rattle.book.specs.declared.Shape.{Shape}
-use Rattle.book.specs.InTurn.{◌then◌, answer_to, unless_refused}
-use Rattle.words.specs.Plain.{number_of, shape_words}
+use Rattle.book.specs.InTurn.{◌then◌, unless_refused}
+use Rattle.book.specs.Read.{no_shape}
+use Rattle.book.proofs.Questions.{kept_passed}
+use Rattle.words.specs.Plain.{shape_words}
 use Rattle.recovery_line.specs.Books.{shape_question}
-use Rattle.recovery_line.proofs.Shells.{wrong, asked, question_is, kept, put, through}
+use Rattle.recovery_line.proofs.Shells.{wrong, asked, kept, put, through}
 
 -- the question of the call inside, and the shape and the tables of the book that it takes
 module _ (question : ℕ) (shaped : Shape) (full full' shape sent received : List ℕ) {q : ℕ} (same : q ≡ shape_question shape) where
@@ -18,7 +19,7 @@ module _ (question : ℕ) (shaped : Shape) (full full' shape sent received : Lis
   abbrev Taken : ℕ → List ℕ → List ℕ → List ℕ → Type 0
   Taken r shape' sent' received' =
       (r ≡ whole)
-      × ((shape' ≡ unless_refused whole shape (shape_words shaped))
+      × ((shape' ≡ unless_refused whole shape (shape_words (unless_refused question no_shape shaped)))
       × ((sent' ≡ unless_refused whole sent (unless_refused question sent full))
       × (received' ≡ unless_refused whole received (unless_refused question received full'))))
 
@@ -27,12 +28,8 @@ module _ (question : ℕ) (shaped : Shape) (full full' shape sent received : Lis
       let e = wrong same (λ _. question) some in
       (e, (kept e shape _ some, (kept e sent _ some, kept e received _ some)))
 
-  module _ (none : q ≡ 0) {answer : Answer} {r : ℕ} (number : r ≡ number_of answer) (answers : answer ≡ answer_to question)
-      {sent' received' : List ℕ} (left : sent' ≡ unless_refused question sent full) (left' : received' ≡ unless_refused question received full')
+  module _ (none : q ≡ 0) {r : ℕ} (of_call : r ≡ question) {sent' received' : List ℕ} (left : sent' ≡ unless_refused question sent full) (left' : received' ≡ unless_refused question received full')
     where
-      of_call : r ≡ question
-      of_call = question_is question number answers
-
       answered : r ≡ whole
       answered = asked same (λ _. question) none of_call
 
@@ -49,4 +46,4 @@ module _ (question : ℕ) (shaped : Shape) (full full' shape sent received : Lis
       pub taken_whole : r ≡ 0 → {taken : Shape} → taken ≡ shaped → {shape' : List ℕ} → shape' ≡ shape_words taken
           → Taken 0 shape' sent' received'
       taken_whole zeroed e put_there =
-          (sym zeroed ∙ answered, (put answered shape _ zeroed (put_there ∙ ap shape_words e), tables))
+          (sym zeroed ∙ answered, (put answered shape _ zeroed (put_there ∙ ap shape_words (e ∙ sym (kept_passed question no_shape shaped (sym of_call ∙ zeroed)))), tables))

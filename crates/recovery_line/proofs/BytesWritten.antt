@@ -1,25 +1,12 @@
 -- What a call that writes bytes to the start of a buffer answers and leaves, by what the code finds out: a book's, or a list's.
-use mathlib.Core.Path.{◌≡◌, refl, sym, ◌∙◌}
+use mathlib.Core.Path.{◌≡◌, sym, ◌∙◌}
 use mathlib.Core.List.{List}
-use Prim.Native.Nat.{ℕ, zero, suc}
-use native.Mathlib.Omega.{arith}
+use Prim.Native.Nat.{ℕ}
 use lib.ListN.{length}
 use lib.Seq.{sets}
-use Rattle.book.specs.declared.WriteAnswer.{WriteAnswer}
-use Rattle.book.specs.declared.WriteAnswer.TheVariants.{Length, Refused}
 use Rattle.book.specs.InTurn.{◌then◌, unless_refused}
-use Rattle.book.specs.Write.{length_or}
 use Rattle.recovery_line.specs.Books.{shape_question}
 use Rattle.recovery_line.proofs.Shells.{wrong, asked, kept, put, through}
-
--- what the answer of the call inside says
-length_given : (q long : ℕ) {bytes : ℕ} → length_or q long ≡ Length bytes → (q ≡ 0) × (bytes ≡ long)
-length_given zero long e = (refl, cc)
-length_given (suc q) long e = let z : ◌≡◌ {A = ℕ} 0 1 = cc in absurd (omega arith)
-
-refusal_given : (q long : ℕ) {r : ℕ} → length_or q long ≡ Refused r → (r ≡ q) × (r ≡ 0 → ⊥)
-refusal_given zero long e = let z : ◌≡◌ {A = ℕ} 0 1 = cc in absurd (omega arith)
-refusal_given (suc q) long {r} e = let f : r ≡ suc q = cc in (f, λ none. absurd (omega arith))
 
 -- the question of the call inside, and the bytes that it writes
 module _ (question : ℕ) (written shape out : List ℕ) (before : ℕ) {q : ℕ} (same : q ≡ shape_question shape) where
@@ -38,22 +25,17 @@ module _ (question : ℕ) (written shape out : List ℕ) (before : ℕ) {q : ℕ
       let e = wrong same (λ _. question) some in
       (e, (kept e out _ some, kept e before _ some))
 
-  module _ (none : q ≡ 0) {answer : WriteAnswer} (answers : answer ≡ length_or question (length written)) {out' : List ℕ}
-      (left : out' ≡ unless_refused question out (sets out 0 written))
+  module _ (none : q ≡ 0) {r : ℕ} (of_call : r ≡ question) {out' : List ℕ} (left : out' ≡ unless_refused question out (sets out 0 written))
     where
-      answered : {r : ℕ} → r ≡ question → r ≡ whole
-      answered e = asked same (λ _. question) none e
+      answered : r ≡ whole
+      answered = asked same (λ _. question) none of_call
 
-      buffer : {r : ℕ} → r ≡ question → out' ≡ unless_refused whole out (unless_refused question out (sets out 0 written))
-      buffer e = through whole question out (sets out 0 written) (answered e) e left
+      buffer : out' ≡ unless_refused whole out (unless_refused question out (sets out 0 written))
+      buffer = through whole question out (sets out 0 written) answered of_call left
 
-      pub written_refused : {r : ℕ} → answer ≡ Refused r → Written r out' before
-      written_refused refusal =
-          let (e, some) = refusal_given question (length written) (sym answers ∙ refusal) in
-          (answered e, (buffer e, kept (answered e) before _ some))
+      pub written_refused : (r ≡ 0 → ⊥) → Written r out' before
+      written_refused some = (answered, (buffer, kept answered before _ some))
 
-      pub written_done : {bytes : ℕ} → answer ≡ Length bytes → {length' : ℕ} → length' ≡ bytes → Written 0 out' length'
-      written_done counted put_there =
-          let (none_fails, is_long) = length_given question (length written) (sym answers ∙ counted) in
-          let e : 0 ≡ question = sym none_fails in
-          (answered e, (buffer e, put (answered e) before _ refl (put_there ∙ is_long)))
+      pub written_done : r ≡ 0 → {bytes : ℕ} → bytes ≡ length written → {length' : ℕ} → length' ≡ bytes → Written 0 out' length'
+      written_done zeroed counted put_there =
+          (sym zeroed ∙ answered, (buffer, put answered before _ zeroed (put_there ∙ counted)))

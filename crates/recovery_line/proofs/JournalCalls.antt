@@ -2,12 +2,10 @@
 use mathlib.Core.Path.{◌≡◌}
 use mathlib.Core.List.{List}
 use Prim.Native.Nat.{ℕ}
-use Rattle.book.specs.declared.Answer.{Answer}
 use Rattle.book.specs.declared.Shape.{Shape}
-use Rattle.book.specs.Tables.{sent_table, received_table}
-use Rattle.book.specs.InTurn.{answer_to}
+use Rattle.book.specs.Tables.{shape_of, sent_table, received_table}
 use Rattle.journal.specs.Calls.{journal_book, journal_question, shape_built, sent_built, received_built}
-use Rattle.words.specs.Plain.{number_of, shape_words}
+use Rattle.words.specs.Plain.{shape_words}
 use Rattle.recovery_line.specs.Books.{shape_question}
 use Rattle.recovery_line.specs.Journals.{journal_answer, journal_shape, journal_sent, journal_received}
 use Rattle.recovery_line.proofs.BytesTaken.{taken_wrong, taken_refused, taken_whole}
@@ -24,22 +22,21 @@ module _ (bytes shape sent received : List ℕ) {q : ℕ} (same : q ≡ shape_qu
   question = journal_question bytes sent received
 
   pub journal_wrong : (q ≡ 0 → ⊥) → Journal q shape sent received
-  unfolding journal_answer journal_shape journal_sent journal_received sent_built received_built
+  unfolding journal_answer journal_shape journal_sent journal_received shape_built sent_built received_built
   journal_wrong =
-      taken_wrong question (shape_built bytes sent received) (sent_table (journal_book bytes)) (received_table (journal_book bytes)) shape sent received same
+      taken_wrong question (shape_of (journal_book bytes)) (sent_table (journal_book bytes)) (received_table (journal_book bytes)) shape sent received same
 
-  module _ (none : q ≡ 0) {answer : Answer} {r : ℕ} (number : r ≡ number_of answer) (answers : answer ≡ answer_to question)
-      {sent' received' : List ℕ} (left : sent' ≡ sent_built bytes sent received) (left' : received' ≡ received_built bytes sent received)
+  module _ (none : q ≡ 0) {r : ℕ} (of_call : r ≡ question) {sent' received' : List ℕ} (left : sent' ≡ sent_built bytes sent received) (left' : received' ≡ received_built bytes sent received)
     where
       pub journal_refused : (r ≡ 0 → ⊥) → Journal r shape sent' received'
-      unfolding journal_answer journal_shape journal_sent journal_received sent_built received_built
+      unfolding journal_answer journal_shape journal_sent journal_received shape_built sent_built received_built
       journal_refused =
-          taken_refused question (shape_built bytes sent received) (sent_table (journal_book bytes)) (received_table (journal_book bytes)) shape sent received
-          same none number answers left left'
+          taken_refused question (shape_of (journal_book bytes)) (sent_table (journal_book bytes)) (received_table (journal_book bytes)) shape sent received
+          same none of_call left left'
 
-      pub journal_taken : r ≡ 0 → {taken : Shape} → taken ≡ shape_built bytes sent received → {shape' : List ℕ} → shape' ≡ shape_words taken
+      pub journal_taken : r ≡ 0 → {taken : Shape} → taken ≡ shape_of (journal_book bytes) → {shape' : List ℕ} → shape' ≡ shape_words taken
           → Journal 0 shape' sent' received'
-      unfolding journal_answer journal_shape journal_sent journal_received sent_built received_built
+      unfolding journal_answer journal_shape journal_sent journal_received shape_built sent_built received_built
       journal_taken =
-          taken_whole question (shape_built bytes sent received) (sent_table (journal_book bytes)) (received_table (journal_book bytes)) shape sent received
-          same none number answers left left'
+          taken_whole question (shape_of (journal_book bytes)) (sent_table (journal_book bytes)) (received_table (journal_book bytes)) shape sent received
+          same none of_call left left'

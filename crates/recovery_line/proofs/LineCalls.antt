@@ -1,36 +1,32 @@
 -- What the calls on sets and the line answer and leave, by what the code finds out.
 use mathlib.Core.Path.{◌≡◌, refl, sym, ap, ap₂, ◌∙◌}
+use Rattle.std.specs.Prelude.{Option, Some, None}
 use mathlib.Core.Bool.{◌&&◌}
 use mathlib.Core.List.{List, [], ◌∷◌}
-use mathlib.Core.Option.{Option}
+use mathlib.Core.Option as found
 use Prim.Native.Nat.{ℕ}
 use native.Mathlib.Omega.{arith}
 use lib.ListN.{length, set}
 use lib.Seq.{sets}
 use Rattle.book.specs.Lent.{lent}
-use Rattle.book.specs.declared.Answer.{Answer}
 use Rattle.book.specs.declared.Shape.{Shape}
 use Rattle.book.specs.declared.Process.{Process}
 use Rattle.book.specs.declared.Checkpoint.{Checkpoint}
 use Rattle.book.specs.declared.Count.{Count}
 use Rattle.book.specs.Bounds.{most_processes}
-use Rattle.book.specs.InTurn.{ask, answer_to}
+use Rattle.book.specs.InTurn.{ask}
 use Rattle.book.specs.Check.{tables_question}
 use Rattle.lists.specs.Over.{numbered}
 use Rattle.line_theory.specs.Sets.{first_fault}
 use Rattle.line_theory.specs.OfTables.{view_of}
-use Rattle.consistency.specs.declared.SetAnswer.{SetAnswer}
-use Rattle.consistency.specs.declared.SetAnswer.TheVariants.{Consistent, AtFault, Refused}
-use Rattle.consistency.specs.declared.CheckpointAnswer.{CheckpointAnswer}
-use Rattle.consistency.specs.declared.CheckpointAnswer.TheVariants as column
-use Rattle.consistency.specs.Set.{chosen, test_question, shown_or, answer_to_test}
-use Rattle.consistency.specs.Known.{counters, column_question, offending, named_or, answer_to_column}
-use Rattle.consistency.proofs.Answers.{tells_consistent, tells_fault, tells_question, tells_permitted, tells_offends, tells_refused}
-use Rattle.finder.specs.Line.{line_found, passed_found}
+use Rattle.consistency.specs.Set.{chosen, test_question, shown_as}
+use Rattle.consistency.specs.Known.{counters, column_question, offending, named_as}
+use Rattle.finder.specs.declared.Line.{Line}
+use Rattle.finder.specs.Line.{found_in}
 use Rattle.words.specs.Words.{shape_length, set_length, pair_length, wrong_length, is_long}
-use Rattle.words.specs.Plain.{number_of, shape_in, set_in, set_words, pair_words, counts_in}
+use Rattle.words.specs.Plain.{shape_in, set_in, set_words, pair_words, counts_in}
 use Rattle.recovery_line.specs.Lines.{test_answer, test_pair, column_answer, column_partner, find_answer, find_line, find_passed}
-use Rattle.recovery_line.proofs.Shells.{two_long, wrong, asked, question_is, kept, put, set_put}
+use Rattle.recovery_line.proofs.Shells.{two_long, wrong, asked, kept, put, set_put}
 
 -- ---- test a set
 
@@ -41,13 +37,22 @@ pair_put (a ∷ []) long e f = absurd (omega arith)
 pair_put (a ∷ (b ∷ [])) long e f = ap₂ (λ (x y : ℕ). x ∷ (y ∷ [])) e f
 pair_put (a ∷ (b ∷ (c ∷ l))) long e f = absurd (omega arith)
 
+-- a pair as it is put, and as it is found
+abbrev put_as : Option (Process × Process) → List ℕ
+put_as None = 0 ∷ (0 ∷ [])
+put_as (Some pair) = pair.0.0 ∷ (pair.1.0 ∷ [])
+
+put_found : (pair : found.Option (ℕ × ℕ)) → put_as (shown_as pair) ≡ pair_words pair
+put_found found.none = refl
+put_found (found.some pair) = refl
+
 module _ (shape sent received set pair : List ℕ) {q : ℕ}
     (same : q ≡ ask wrong_length (is_long shape_length shape && (is_long set_length set && is_long pair_length pair)))
   where
     abbrev inside : ℕ
     inside = test_question (lent (shape_in shape) sent received) (set_in set)
 
-    abbrev pair_found : Option (ℕ × ℕ)
+    abbrev pair_found : found.Option (ℕ × ℕ)
     pair_found = first_fault (view_of (lent (shape_in shape) sent received)) (chosen (set_in set))
 
     -- the answer, and what is left in the slice
@@ -63,37 +68,33 @@ module _ (shape sent received set pair : List ℕ) {q : ℕ}
     test_wrong some = test_untouched (wrong same (λ _. inside) some) some
 
     module _ (none : q ≡ 0) {given : Shape} (given_is : given ≡ shape_in shape) {named : List Checkpoint} (named_is : named ≡ set_in set)
-        (found : SetAnswer) (tested : found ≡ answer_to_test (lent given sent received) named)
+        {r : ℕ} (of_call : r ≡ test_question (lent given sent received) named)
       where
-        of_words : {answer : SetAnswer} → found ≡ answer → shown_or inside pair_found ≡ answer
-        unfolding answer_to_test
-        of_words e = sym (tested ∙ (λ t. answer_to_test (lent (given_is t) sent received) (named_is t))) ∙ e
-
-        test_answered : {r : ℕ} → inside ≡ r → r ≡ test_answer shape sent received set pair
+        test_answered : r ≡ test_answer shape sent received set pair
         unfolding test_answer
-        test_answered e = asked same (λ _. inside) none (sym e)
+        test_answered = asked same (λ _. inside) none (of_call ∙ (λ t. test_question (lent (given_is t) sent received) (named_is t)))
 
-        pub test_refused : {r : ℕ} → found ≡ Refused r → TestedSet r pair
-        test_refused {r} e =
-            let (is, some) = tells_question inside pair_found r (of_words e) in
-            test_untouched (test_answered is) some
+        pub test_refused : (r ≡ 0 → ⊥) → TestedSet r pair
+        test_refused some = test_untouched test_answered some
 
-        test_left : inside ≡ 0 → {after : List ℕ} → after ≡ pair_words pair_found → TestedSet 0 after
+        pub test_shown : r ≡ 0 → {fault : Option (Process × Process)}
+            → fault ≡ shown_as (first_fault (view_of (lent given sent received)) (chosen named))
+            → {after : List ℕ} → after ≡ put_as fault → TestedSet 0 after
         unfolding test_pair
-        test_left is left = (test_answered is, put (test_answered is) pair _ refl left)
-
-        pub test_consistent : found ≡ Consistent → {after : List ℕ} → after ≡ (0 ∷ (0 ∷ [])) → TestedSet 0 after
-        test_consistent e left =
-            let (is, nobody) = tells_consistent inside pair_found (of_words e) in
-            test_left is (left ∙ sym (ap pair_words nobody))
-
-        pub test_fault : {j p : Process} → found ≡ AtFault j p → {after : List ℕ} → after ≡ (j.0 ∷ (p.0 ∷ [])) → TestedSet 0 after
-        test_fault {j} {p} e left =
-            let told = tells_fault inside pair_found j p (of_words e) in
-            test_left told.passed
-            (left ∙ ap₂ (λ (x y : ℕ). x ∷ (y ∷ [])) told.first_is told.second_is ∙ sym (ap pair_words told.found))
+        test_shown zeroed e left =
+            let is = e ∙ (λ t. shown_as (first_fault (view_of (lent (given_is t) sent received)) (chosen (named_is t)))) in
+            (sym zeroed ∙ test_answered, put test_answered pair _ zeroed (left ∙ ap put_as is ∙ put_found pair_found))
 
 -- ---- test one checkpoint
+
+-- a partner as it is put, and as it is found
+abbrev number_of : Option Process → ℕ
+number_of None = 0
+number_of (Some p) = p.0
+
+number_found : (partner : found.Option ℕ) → number_of (named_as partner) ≡ numbered partner
+number_found found.none = refl
+number_found (found.some p) = refl
 
 module _ (shape sent received : List ℕ) (process checkpoint : ℕ) (known : List ℕ) (partner : ℕ) {q : ℕ}
     (same : q ≡ ask wrong_length (is_long shape_length shape && is_long most_processes known))
@@ -101,7 +102,7 @@ module _ (shape sent received : List ℕ) (process checkpoint : ℕ) (known : Li
     abbrev asks : ℕ
     asks = column_question (lent (shape_in shape) sent received) process checkpoint
 
-    abbrev partner_found : Option ℕ
+    abbrev partner_found : found.Option ℕ
     partner_found = offending (lent (shape_in shape) sent received) process checkpoint (counters (counts_in known))
 
     -- the answer, and the number that is left
@@ -120,35 +121,24 @@ module _ (shape sent received : List ℕ) (process checkpoint : ℕ) (known : Li
 
     module _ (none : q ≡ 0) {given : Shape} (given_is : given ≡ shape_in shape) {counts : List Count} (counts_are : counts ≡ counts_in known)
         {j r : ℕ} (process_is : j ≡ process) (checkpoint_is : r ≡ checkpoint)
-        (found : CheckpointAnswer) (tested : found ≡ answer_to_column (lent given sent received) j r counts)
+        {answer : ℕ} (of_call : answer ≡ column_question (lent given sent received) j r)
       where
-        of_column : {answer : CheckpointAnswer} → found ≡ answer → named_or asks partner_found ≡ answer
-        unfolding answer_to_column
-        of_column e =
-            sym (tested ∙ (λ t. answer_to_column (lent (given_is t) sent received) (process_is t) (checkpoint_is t) (counts_are t))) ∙ e
-
-        column_answered : {r : ℕ} → asks ≡ r → r ≡ column_answer shape sent received process checkpoint known
+        column_answered : answer ≡ column_answer shape sent received process checkpoint known
         unfolding column_answer
-        column_answered e = asked same (λ _. asks) none (sym e)
+        column_answered =
+            asked same (λ _. asks) none
+            (of_call ∙ (λ t. column_question (lent (given_is t) sent received) (process_is t) (checkpoint_is t)))
 
-        pub column_refused : {r : ℕ} → found ≡ column.Refused r → TestedColumn r partner
-        column_refused {r} e =
-            let (is, some) = tells_refused asks partner_found r (of_column e) in
-            column_untouched (column_answered is) some
+        pub column_refused : (answer ≡ 0 → ⊥) → TestedColumn answer partner
+        column_refused some = column_untouched column_answered some
 
-        column_left : asks ≡ 0 → {after : ℕ} → after ≡ numbered partner_found → TestedColumn 0 after
+        pub column_named : answer ≡ 0 → {found : Option Process} → found ≡ named_as (offending (lent given sent received) j r (counters counts))
+            → {after : ℕ} → after ≡ number_of found → TestedColumn 0 after
         unfolding column_partner
-        column_left is left = (column_answered is, put (column_answered is) partner _ refl left)
-
-        pub column_permitted : found ≡ column.Permitted → {after : ℕ} → after ≡ 0 → TestedColumn 0 after
-        column_permitted e left =
-            let (is, nobody) = tells_permitted asks partner_found (of_column e) in
-            column_left is (left ∙ sym (ap numbered nobody))
-
-        pub column_offends : {p : Process} → found ≡ column.Offends p → {after : ℕ} → after ≡ p.0 → TestedColumn 0 after
-        column_offends {p} e left =
-            let (is, (i, at, number)) = tells_offends asks partner_found p (of_column e) in
-            column_left is (left ∙ number ∙ sym (ap numbered at))
+        column_named zeroed e left =
+            let is =
+            e ∙ (λ t. named_as (offending (lent (given_is t) sent received) (process_is t) (checkpoint_is t) (counters (counts_are t)))) in
+            (sym zeroed ∙ column_answered, put column_answered partner _ zeroed (left ∙ ap number_of is ∙ number_found partner_found))
 
 -- ---- find the line
 
@@ -168,28 +158,26 @@ module _ (shape sent received line : List ℕ) (passed : ℕ) {q : ℕ}
     unfolding find_answer
     find_wrong some = find_untouched (wrong same (λ _. tables_question (lent (shape_in shape) sent received)) some) some
 
-    module _ (none : q ≡ 0) {given : Shape} (given_is : given ≡ shape_in shape) {answer : Answer} {r : ℕ} (number : r ≡ number_of answer)
-        (answers : answer ≡ answer_to (tables_question (lent given sent received)))
+    module _ (none : q ≡ 0) {given : Shape} (given_is : given ≡ shape_in shape) {r : ℕ} (of_call : r ≡ tables_question (lent given sent received))
       where
         find_answered : r ≡ find_answer shape sent received line
         unfolding find_answer
         find_answered =
-            let to : answer ≡ answer_to (tables_question (lent (shape_in shape) sent received)) = answers ∙ (λ t. answer_to (tables_question (lent (given_is t) sent received))) in
             asked same (λ _. tables_question (lent (shape_in shape) sent received)) none
-            (question_is (tables_question (lent (shape_in shape) sent received)) number to)
+            (of_call ∙ (λ t. tables_question (lent (given_is t) sent received)))
 
         pub find_refused : (r ≡ 0 → ⊥) → Found r line passed
         find_refused some = find_untouched find_answered some
 
-        pub find_found : r ≡ 0 → {found : List Checkpoint} → found ≡ line_found (lent given sent received)
-            → {line' : List ℕ} → line' ≡ sets line 0 (set_words found)
-            → {newer : ℕ} → newer ≡ passed_found (lent given sent received) → {passed' : ℕ} → passed' ≡ newer → Found 0 line' passed'
+        pub find_found : r ≡ 0 → {found : Line} → found ≡ found_in (lent given sent received)
+            → {line' : List ℕ} → line' ≡ sets line 0 (set_words found.set) → {passed' : ℕ} → passed' ≡ found.passed → Found 0 line' passed'
         unfolding find_line find_passed
-        find_found zeroed {found} stand left counted left' =
-            let place = set_put line (two_long shape_length set_length shape line same none).1 found left in (
+        find_found zeroed {found} e left left' =
+            let place = set_put line (two_long shape_length set_length shape line same none).1 found.set left in
+            let is = e ∙ (λ t. found_in (lent (given_is t) sent received)) in (
               sym zeroed ∙ find_answered,
               (
-                put find_answered line _ zeroed (place ∙ ap set_words (stand ∙ (λ t. line_found (lent (given_is t) sent received)))),
-                put find_answered passed _ zeroed (left' ∙ counted ∙ (λ t. passed_found (lent (given_is t) sent received))),
+                put find_answered line _ zeroed (place ∙ ap (λ (l : Line). set_words l.set) is),
+                put find_answered passed _ zeroed (left' ∙ ap (λ (l : Line). l.passed) is),
               ),
             )

@@ -5,20 +5,21 @@ use mathlib.Core.List.{List}
 use Prim.Native.Nat.{ℕ}
 use lib.Seq.{sets}
 use Rattle.book.specs.Lent.{lent}
-use Rattle.book.specs.declared.Answer.{Answer}
 use Rattle.book.specs.declared.Shape.{Shape}
-use Rattle.book.specs.InTurn.{◌then◌, ask, answer_to, unless_refused}
+use Rattle.book.specs.InTurn.{◌then◌, ask, unless_refused}
 use Rattle.participant.specs.declared.Participant.{Participant}
+use Rattle.participant.specs.declared.ParticipantAfter.{ParticipantAfter}
 use Rattle.participant.specs.Calls as participant
 use Rattle.initiator.specs.declared.Initiator.{Initiator}
+use Rattle.initiator.specs.declared.InitiatorAfter.{InitiatorAfter}
 use Rattle.initiator.specs.Calls as initiator
 use Rattle.words.specs.Words.{shape_length, lengths_length, wrong_length, is_long}
-use Rattle.words.specs.Plain.{number_of, shape_in, number_words}
+use Rattle.words.specs.Plain.{shape_in, number_words}
 use Rattle.words.specs.Participant.{participant_length, participant_words, participant_in}
 use Rattle.words.specs.Initiator.{initiator_length, initiator_words, initiator_in}
 use Rattle.state_words.proofs.Lengths.{length_participant, length_initiator}
 use Rattle.recovery_line.specs.Machines.{as_process, participant_first_answer, participant_first_state, participant_receive_answer, participant_receive_state, participant_receive_out, participant_receive_lengths, initiator_begin_answer, initiator_begin_state, initiator_begin_out, initiator_begin_lengths, initiator_receive_answer, initiator_receive_state, initiator_receive_out, initiator_receive_lengths}
-use Rattle.recovery_line.proofs.Shells.{two_long, three_long, wrong, asked, question_is, kept, put, through, put_whole, numbers_put}
+use Rattle.recovery_line.proofs.Shells.{two_long, three_long, wrong, asked, kept, put, through, put_whole, numbers_put}
 
 -- ---- a participant's first state
 
@@ -44,15 +45,13 @@ module _ (shape sent received : List ℕ) (me inviter purpose : ℕ) (state : Li
     first_wrong some = first_untouched (wrong same (λ _. first_inside) some) some
 
     module _ (none : q ≡ 0) {given : Shape} (given_is : given ≡ shape_in shape) {p i : ℕ} (p_is : p ≡ me) (i_is : i ≡ inviter)
-        {answer : Answer} {r : ℕ} (number : r ≡ number_of answer)
-        (answers : answer ≡ answer_to (participant.first_question (lent given sent received) p i purpose))
+        {r : ℕ} (of_call : r ≡ participant.first_question (lent given sent received) p i purpose)
       where
         first_answered : r ≡ first_answer
         unfolding participant_first_answer
         first_answered =
-            let to : answer ≡ answer_to first_inside =
-            answers ∙ (λ t. answer_to (participant.first_question (lent (given_is t) sent received) (p_is t) (i_is t) purpose)) in
-            asked same (λ _. first_inside) none (question_is first_inside number to)
+            asked same (λ _. first_inside) none
+            (of_call ∙ (λ t. participant.first_question (lent (given_is t) sent received) (p_is t) (i_is t) purpose))
 
         pub first_refused : (r ≡ 0 → ⊥) → First r state
         first_refused some = first_untouched first_answered some
@@ -123,14 +122,11 @@ module _ (state shape sent received message out lengths : List ℕ) {q : ℕ}
     receive_wrong some = step_wrong receive_long receive_inside state out lengths _ _ _ same some
 
     module _ (none : q ≡ 0) {given : Shape} (given_is : given ≡ shape_in shape) {machine : Participant} (machine_is : machine ≡ participant_in state)
-        {answer : Answer} {r : ℕ} (number : r ≡ number_of answer)
-        (answers : answer ≡ answer_to (participant.receive_question (lent given sent received) machine message out))
+        {r : ℕ} (of_call : r ≡ participant.receive_question (lent given sent received) machine message out)
         {out' : List ℕ} (left : out' ≡ participant.bytes_after (lent given sent received) machine message out)
       where
         of_receive : r ≡ receive_inside
-        of_receive =
-            question_is receive_inside number
-            (answers ∙ (λ t. answer_to (participant.receive_question (lent (given_is t) sent received) (machine_is t) message out)))
+        of_receive = of_call ∙ (λ t. participant.receive_question (lent (given_is t) sent received) (machine_is t) message out)
 
         receive_left : out' ≡ participant.bytes_after (lent (shape_in shape) sent received) (participant_in state) message out
         receive_left = left ∙ (λ t. participant.bytes_after (lent (given_is t) sent received) (machine_is t) message out)
@@ -139,18 +135,18 @@ module _ (state shape sent received message out lengths : List ℕ) {q : ℕ}
         unfolding participant_receive_answer participant_receive_state participant_receive_out participant_receive_lengths participant.bytes_after
         receive_refused some = step_refused receive_long receive_inside state out lengths _ _ _ same none of_receive receive_left some
 
-        pub receive_done : r ≡ 0 → {next : Participant} → next ≡ participant.state_after (lent given sent received) machine message out
-            → {state' : List ℕ} → state' ≡ sets state 0 (participant_words next)
-            → {counts : List ℕ} → counts ≡ participant.lengths_after (lent given sent received) machine message out
-            → {lengths' : List ℕ} → lengths' ≡ sets lengths 0 (number_words counts) → Received 0 state' out' lengths'
+        pub receive_done : r ≡ 0 → {after : ParticipantAfter}
+            → after ≡ record { state = participant.state_after (lent given sent received) machine message out; lengths = participant.lengths_after (lent given sent received) machine message out }
+            → {state' : List ℕ} → state' ≡ sets state 0 (participant_words after.state)
+            → {lengths' : List ℕ} → lengths' ≡ sets lengths 0 (number_words after.lengths) → Received 0 state' out' lengths'
         unfolding participant_receive_answer participant_receive_state participant_receive_out participant_receive_lengths participant.bytes_after
-        receive_done zeroed {next} e put_there {counts} f put_there' =
+        receive_done zeroed {after} e put_there put_there' =
             let long = (three_long shape_length participant_length lengths_length shape state lengths same none).1 in
-            let there = put_whole (participant_words next) state (length_participant next) long.0 put_there in
-            let is = e ∙ (λ t. participant.state_after (lent (given_is t) sent received) (machine_is t) message out) in
-            let are = f ∙ (λ t. participant.lengths_after (lent (given_is t) sent received) (machine_is t) message out) in
+            let there = put_whole (participant_words after.state) state (length_participant after.state) long.0 put_there in
+            let is = ap (λ (w : ParticipantAfter). w.state) e ∙ (λ t. participant.state_after (lent (given_is t) sent received) (machine_is t) message out) in
+            let are = ap (λ (w : ParticipantAfter). w.lengths) e ∙ (λ t. participant.lengths_after (lent (given_is t) sent received) (machine_is t) message out) in
             step_done receive_long receive_inside state out lengths _ _ _ same none of_receive receive_left zeroed
-            (there ∙ ap participant_words is) (numbers_put lengths long.1 counts put_there' ∙ ap number_words are)
+            (there ∙ ap participant_words is) (numbers_put lengths long.1 after.lengths put_there' ∙ ap number_words are)
 
 -- ---- an initiator begins
 
@@ -174,14 +170,12 @@ module _ (shape sent received : List ℕ) (me purpose : ℕ) (state out lengths 
     unfolding initiator_begin_answer initiator_begin_state initiator_begin_out initiator_begin_lengths initiator.bytes_begun
     begin_wrong some = step_wrong begin_long begin_inside state out lengths _ _ _ same some
 
-    module _ (none : q ≡ 0) {given : Shape} (given_is : given ≡ shape_in shape) {p : ℕ} (p_is : p ≡ me) {answer : Answer} {r : ℕ}
-        (number : r ≡ number_of answer) (answers : answer ≡ answer_to (initiator.begin_question (lent given sent received) (as_process p) purpose out))
+    module _ (none : q ≡ 0) {given : Shape} (given_is : given ≡ shape_in shape) {p : ℕ} (p_is : p ≡ me) {r : ℕ}
+        (of_call : r ≡ initiator.begin_question (lent given sent received) (as_process p) purpose out)
         {out' : List ℕ} (left : out' ≡ initiator.bytes_begun (lent given sent received) (as_process p) purpose out)
       where
         of_begin : r ≡ begin_inside
-        of_begin =
-            question_is begin_inside number
-            (answers ∙ (λ t. answer_to (initiator.begin_question (lent (given_is t) sent received) (as_process (p_is t)) purpose out)))
+        of_begin = of_call ∙ (λ t. initiator.begin_question (lent (given_is t) sent received) (as_process (p_is t)) purpose out)
 
         begin_left : out' ≡ initiator.bytes_begun (lent (shape_in shape) sent received) (as_process me) purpose out
         begin_left = left ∙ (λ t. initiator.bytes_begun (lent (given_is t) sent received) (as_process (p_is t)) purpose out)
@@ -190,18 +184,18 @@ module _ (shape sent received : List ℕ) (me purpose : ℕ) (state out lengths 
         unfolding initiator_begin_answer initiator_begin_state initiator_begin_out initiator_begin_lengths initiator.bytes_begun
         begin_refused some = step_refused begin_long begin_inside state out lengths _ _ _ same none of_begin begin_left some
 
-        pub begin_done : r ≡ 0 → {next : Initiator} → next ≡ initiator.state_begun (lent given sent received) (as_process p) purpose out
-            → {state' : List ℕ} → state' ≡ sets state 0 (initiator_words next)
-            → {counts : List ℕ} → counts ≡ initiator.lengths_begun (lent given sent received) (as_process p) purpose out
-            → {lengths' : List ℕ} → lengths' ≡ sets lengths 0 (number_words counts) → Begun 0 state' out' lengths'
+        pub begin_done : r ≡ 0 → {after : InitiatorAfter}
+            → after ≡ record { state = initiator.state_begun (lent given sent received) (as_process p) purpose out; lengths = initiator.lengths_begun (lent given sent received) (as_process p) purpose out }
+            → {state' : List ℕ} → state' ≡ sets state 0 (initiator_words after.state)
+            → {lengths' : List ℕ} → lengths' ≡ sets lengths 0 (number_words after.lengths) → Begun 0 state' out' lengths'
         unfolding initiator_begin_answer initiator_begin_state initiator_begin_out initiator_begin_lengths initiator.bytes_begun
-        begin_done zeroed {next} e put_there {counts} f put_there' =
+        begin_done zeroed {after} e put_there put_there' =
             let long = (three_long shape_length initiator_length lengths_length shape state lengths same none).1 in
-            let there = put_whole (initiator_words next) state (length_initiator next) long.0 put_there in
-            let is = e ∙ (λ t. initiator.state_begun (lent (given_is t) sent received) (as_process (p_is t)) purpose out) in
-            let are = f ∙ (λ t. initiator.lengths_begun (lent (given_is t) sent received) (as_process (p_is t)) purpose out) in
+            let there = put_whole (initiator_words after.state) state (length_initiator after.state) long.0 put_there in
+            let is = ap (λ (w : InitiatorAfter). w.state) e ∙ (λ t. initiator.state_begun (lent (given_is t) sent received) (as_process (p_is t)) purpose out) in
+            let are = ap (λ (w : InitiatorAfter). w.lengths) e ∙ (λ t. initiator.lengths_begun (lent (given_is t) sent received) (as_process (p_is t)) purpose out) in
             step_done begin_long begin_inside state out lengths _ _ _ same none of_begin begin_left zeroed
-            (there ∙ ap initiator_words is) (numbers_put lengths long.1 counts put_there' ∙ ap number_words are)
+            (there ∙ ap initiator_words is) (numbers_put lengths long.1 after.lengths put_there' ∙ ap number_words are)
 
 -- ---- an initiator receives a report
 
@@ -226,14 +220,11 @@ module _ (state shape sent received message out lengths : List ℕ) {q : ℕ}
     report_wrong some = step_wrong report_long report_inside state out lengths _ _ _ same some
 
     module _ (none : q ≡ 0) {given : Shape} (given_is : given ≡ shape_in shape) {machine : Initiator} (machine_is : machine ≡ initiator_in state)
-        {answer : Answer} {r : ℕ} (number : r ≡ number_of answer)
-        (answers : answer ≡ answer_to (initiator.receive_question (lent given sent received) machine message out))
+        {r : ℕ} (of_call : r ≡ initiator.receive_question (lent given sent received) machine message out)
         {out' : List ℕ} (left : out' ≡ initiator.bytes_after (lent given sent received) machine message out)
       where
         of_report : r ≡ report_inside
-        of_report =
-            question_is report_inside number
-            (answers ∙ (λ t. answer_to (initiator.receive_question (lent (given_is t) sent received) (machine_is t) message out)))
+        of_report = of_call ∙ (λ t. initiator.receive_question (lent (given_is t) sent received) (machine_is t) message out)
 
         report_left : out' ≡ initiator.bytes_after (lent (shape_in shape) sent received) (initiator_in state) message out
         report_left = left ∙ (λ t. initiator.bytes_after (lent (given_is t) sent received) (machine_is t) message out)
@@ -242,15 +233,15 @@ module _ (state shape sent received message out lengths : List ℕ) {q : ℕ}
         unfolding initiator_receive_answer initiator_receive_state initiator_receive_out initiator_receive_lengths initiator.bytes_after
         report_refused some = step_refused report_long report_inside state out lengths _ _ _ same none of_report report_left some
 
-        pub report_done : r ≡ 0 → {next : Initiator} → next ≡ initiator.state_after (lent given sent received) machine message out
-            → {state' : List ℕ} → state' ≡ sets state 0 (initiator_words next)
-            → {counts : List ℕ} → counts ≡ initiator.lengths_after (lent given sent received) machine message out
-            → {lengths' : List ℕ} → lengths' ≡ sets lengths 0 (number_words counts) → Reported 0 state' out' lengths'
+        pub report_done : r ≡ 0 → {after : InitiatorAfter}
+            → after ≡ record { state = initiator.state_after (lent given sent received) machine message out; lengths = initiator.lengths_after (lent given sent received) machine message out }
+            → {state' : List ℕ} → state' ≡ sets state 0 (initiator_words after.state)
+            → {lengths' : List ℕ} → lengths' ≡ sets lengths 0 (number_words after.lengths) → Reported 0 state' out' lengths'
         unfolding initiator_receive_answer initiator_receive_state initiator_receive_out initiator_receive_lengths initiator.bytes_after
-        report_done zeroed {next} e put_there {counts} f put_there' =
+        report_done zeroed {after} e put_there put_there' =
             let long = (three_long shape_length initiator_length lengths_length shape state lengths same none).1 in
-            let there = put_whole (initiator_words next) state (length_initiator next) long.0 put_there in
-            let is = e ∙ (λ t. initiator.state_after (lent (given_is t) sent received) (machine_is t) message out) in
-            let are = f ∙ (λ t. initiator.lengths_after (lent (given_is t) sent received) (machine_is t) message out) in
+            let there = put_whole (initiator_words after.state) state (length_initiator after.state) long.0 put_there in
+            let is = ap (λ (w : InitiatorAfter). w.state) e ∙ (λ t. initiator.state_after (lent (given_is t) sent received) (machine_is t) message out) in
+            let are = ap (λ (w : InitiatorAfter). w.lengths) e ∙ (λ t. initiator.lengths_after (lent (given_is t) sent received) (machine_is t) message out) in
             step_done report_long report_inside state out lengths _ _ _ same none of_report report_left zeroed
-            (there ∙ ap initiator_words is) (numbers_put lengths long.1 counts put_there' ∙ ap number_words are)
+            (there ∙ ap initiator_words is) (numbers_put lengths long.1 after.lengths put_there' ∙ ap number_words are)

@@ -4,15 +4,16 @@ use mathlib.Core.Bool.{◌&&◌}
 use mathlib.Core.List.{List}
 use Prim.Native.Nat.{ℕ}
 use Rattle.book.specs.Lent.{lent}
-use Rattle.book.specs.declared.Answer.{Answer}
 use Rattle.book.specs.declared.Shape.{Shape}
-use Rattle.book.specs.InTurn.{ask, answer_to}
+use Rattle.book.specs.InTurn.{ask}
 use Rattle.restart.specs.declared.Order.{Order}
+use Rattle.moves.specs.declared.Moved.{Moved as AfterMove}
+use Rattle.moves.specs.Parts.{line_moved}
 use Rattle.restart.specs.Calls.{move_question, order_given, shape_moved, sent_moved, received_moved}
 use Rattle.words.specs.Words.{shape_length, order_length, wrong_length, is_long}
-use Rattle.words.specs.Plain.{number_of, shape_in, shape_words, order_words}
+use Rattle.words.specs.Plain.{shape_in, shape_words, order_words}
 use Rattle.recovery_line.specs.Moves.{move_answer, move_shape, move_sent, move_received, move_order}
-use Rattle.recovery_line.proofs.Shells.{wrong, asked, question_is, kept, put, through}
+use Rattle.recovery_line.proofs.Shells.{wrong, asked, kept, put, through}
 
 module _ (shape sent received : List ℕ) (purpose : ℕ) (order : List ℕ) {q : ℕ}
     (same : q ≡ ask wrong_length (is_long shape_length shape && is_long order_length order))
@@ -52,11 +53,11 @@ module _ (shape sent received : List ℕ) (purpose : ℕ) (order : List ℕ) {q 
         let e = wrong_length_lem some in
         (e, (kept e shape _ some, (kept e sent _ some, (kept e received _ some, no_order e some))))
 
-    module _ (none : q ≡ 0) {given : Shape} (given_is : given ≡ shape_in shape) {answer : Answer} {r : ℕ} (number : r ≡ number_of answer)
-        (answers : answer ≡ answer_to (move_question (lent given sent received) purpose))
+    module _ (none : q ≡ 0) {given : Shape} (given_is : given ≡ shape_in shape) {r : ℕ}
+        (of_call : r ≡ move_question (lent given sent received) purpose)
       where
         of_move : r ≡ inside
-        of_move = question_is inside number (answers ∙ (λ t. answer_to (move_question (lent (given_is t) sent received) purpose)))
+        of_move = of_call ∙ (λ t. move_question (lent (given_is t) sent received) purpose)
 
         answered : r ≡ answer_put
         unfolding move_answer
@@ -94,14 +95,15 @@ module _ (shape sent received : List ℕ) (purpose : ℕ) (order : List ℕ) {q 
             unfolding move_shape
             move_refused some = (answered, (kept answered shape _ some, (sent_left, (received_left, no_order answered some))))
 
-            pub move_done : r ≡ 0 → {moved : Shape} → moved ≡ shape_moved (lent given sent received) purpose → {shape' : List ℕ}
-                → shape' ≡ shape_words moved → {restart : Order} → restart ≡ order_given (lent given sent received) purpose → {order' : List ℕ}
-                → order' ≡ order_words restart → Moved 0 shape' sent' received' order'
+            pub move_done : r ≡ 0 → {moved : AfterMove} → moved ≡ line_moved (lent given sent received) purpose
+                → {shape' : List ℕ} → shape' ≡ shape_words moved.shape → {order' : List ℕ} → order' ≡ order_words moved.order
+                → Moved 0 shape' sent' received' order'
             unfolding move_shape
-            move_done zeroed e put_there f put_there' = (
-              sym zeroed ∙ answered,
-              (
-                put answered shape _ zeroed (put_there ∙ ap shape_words (e ∙ (λ t. shape_moved (lent (given_is t) sent received) purpose))),
-                (sent_left, (received_left, order_put zeroed f put_there')),
-              ),
-            )
+            move_done zeroed e put_there put_there' =
+                let is = ap (λ (m : AfterMove). m.shape) e ∙ (λ t. shape_moved (lent (given_is t) sent received) purpose) in (
+                  sym zeroed ∙ answered,
+                  (
+                    put answered shape _ zeroed (put_there ∙ ap shape_words is),
+                    (sent_left, (received_left, order_put zeroed (ap (λ (m : AfterMove). m.order) e) put_there')),
+                  ),
+                )

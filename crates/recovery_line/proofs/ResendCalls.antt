@@ -7,21 +7,17 @@ use lib.ListN.{length}
 use lib.Seq.{sets}
 use borrow.Author.Tests.{eq-eqb, ne_eqb}
 use Rattle.book.specs.Lent.{Tables, lent}
-use Rattle.book.specs.declared.Answer.{Answer}
 use Rattle.book.specs.declared.Shape.{Shape}
-use Rattle.book.specs.declared.WriteAnswer.{WriteAnswer}
-use Rattle.book.specs.declared.WriteAnswer.TheVariants.{Length, Refused}
-use Rattle.book.specs.InTurn.{ask, answer_to}
-use Rattle.book.specs.Write.{length_or}
+use Rattle.book.specs.InTurn.{ask}
 use Rattle.restart.specs.declared.Resend.{Resend}
 use Rattle.resend.specs.Questions.{list_question}
-use Rattle.resend.specs.Calls.{bytes_to_resend, write_list_question, answer_to_write_list, list_written, list_read}
+use Rattle.resend.specs.Calls.{bytes_to_resend, write_list_question, list_written, list_read}
 use Rattle.words.specs.Words.{resend_length, wrong_length, is_long}
-use Rattle.words.specs.Plain.{number_of, shape_in, resend_words}
+use Rattle.words.specs.Plain.{shape_in, resend_words}
 use Rattle.words.proofs.Storing.{resend_long}
 use Rattle.recovery_line.specs.Books.{shape_question}
 use Rattle.recovery_line.specs.Resends.{write_resend_answer, write_resend_out, write_resend_length, read_resend_answer, read_resend_list}
-use Rattle.recovery_line.proofs.Shells.{wrong, asked, question_is, kept, put, put_whole}
+use Rattle.recovery_line.proofs.Shells.{wrong, asked, kept, put, put_whole}
 use Rattle.recovery_line.proofs.BytesWritten.{written_wrong, written_refused, written_done}
 
 -- ---- write
@@ -39,26 +35,28 @@ module _ (shape sent received : List ℕ) (purpose : ℕ) (out : List ℕ) (befo
   unfolding write_resend_answer write_resend_out write_resend_length list_written
   write_wrong = written_wrong (write_list_question tables purpose out) (bytes_to_resend tables purpose) shape out before same
 
-  module _ (none : q ≡ 0) {given : Shape} (given_is : given ≡ shape_in shape) {answer : WriteAnswer}
-      (answers : answer ≡ answer_to_write_list (lent given sent received) purpose out) {out' : List ℕ}
+  module _ (none : q ≡ 0) {given : Shape} (given_is : given ≡ shape_in shape) {r : ℕ}
+      (of_call : r ≡ write_list_question (lent given sent received) purpose out) {out' : List ℕ}
       (left : out' ≡ list_written (lent given sent received) purpose out)
     where
-      answer_is : answer ≡ length_or (write_list_question tables purpose out) (length (bytes_to_resend tables purpose))
-      unfolding answer_to_write_list
-      answer_is = answers ∙ (λ t. answer_to_write_list (lent (given_is t) sent received) purpose out)
+      question_of : r ≡ write_list_question tables purpose out
+      question_of = of_call ∙ (λ t. write_list_question (lent (given_is t) sent received) purpose out)
 
       left_is : out' ≡ list_written tables purpose out
       left_is = left ∙ (λ t. list_written (lent (given_is t) sent received) purpose out)
 
-      pub write_refused : {r : ℕ} → answer ≡ Refused r → Written r out' before
+      pub write_refused : (r ≡ 0 → ⊥) → Written r out' before
       unfolding write_resend_answer write_resend_out write_resend_length list_written
       write_refused =
-          written_refused (write_list_question tables purpose out) (bytes_to_resend tables purpose) shape out before same none answer_is left_is
+          written_refused (write_list_question tables purpose out) (bytes_to_resend tables purpose) shape out before same none question_of left_is
 
-      pub write_done : {bytes : ℕ} → answer ≡ Length bytes → {length' : ℕ} → length' ≡ bytes → Written 0 out' length'
+      pub write_done : r ≡ 0 → {bytes : ℕ} → bytes ≡ length (bytes_to_resend (lent given sent received) purpose)
+          → {length' : ℕ} → length' ≡ bytes → Written 0 out' length'
       unfolding write_resend_answer write_resend_out write_resend_length list_written
-      write_done =
-          written_done (write_list_question tables purpose out) (bytes_to_resend tables purpose) shape out before same none answer_is left_is
+      write_done zeroed counted =
+          written_done (write_list_question tables purpose out) (bytes_to_resend tables purpose) shape out before same none question_of left_is
+          zeroed
+          (counted ∙ (λ t. length (bytes_to_resend (lent (given_is t) sent received) purpose)))
 
 -- ---- read
 
@@ -75,14 +73,13 @@ module _ (n : ℕ) (bytes resend : List ℕ) where
       let e = wrong same (λ _. list_question n bytes) some in
       (e, kept e resend _ some)
 
-  module _ (long : length resend ≡ resend_length) {given : ℕ} (given_is : given ≡ n) {answer : Answer} {r : ℕ} (number : r ≡ number_of answer)
-      (answers : answer ≡ answer_to (list_question given bytes))
+  module _ (long : length resend ≡ resend_length) {given : ℕ} (given_is : given ≡ n) {r : ℕ} (of_call : r ≡ list_question given bytes)
     where
       answered : r ≡ read_resend_answer n bytes resend
       unfolding read_resend_answer
       answered =
           let same : 0 ≡ ask wrong_length (is_long resend_length resend) = rw (eq-eqb (length resend) resend_length long) in
-          asked same (λ _. list_question n bytes) refl (question_is (list_question given bytes) number answers ∙ ap (λ (k : ℕ). list_question k bytes) given_is)
+          asked same (λ _. list_question n bytes) refl (of_call ∙ ap (λ (k : ℕ). list_question k bytes) given_is)
 
       pub read_refused : (r ≡ 0 → ⊥) → Taken r resend
       unfolding read_resend_list

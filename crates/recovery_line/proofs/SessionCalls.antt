@@ -4,17 +4,16 @@ use mathlib.Core.Bool.{◌&&◌}
 use mathlib.Core.List.{List}
 use Prim.Native.Nat.{ℕ}
 use Rattle.book.specs.Lent.{lent}
-use Rattle.book.specs.declared.Answer.{Answer}
 use Rattle.book.specs.declared.Shape.{Shape}
-use Rattle.book.specs.InTurn.{ask, answer_to}
+use Rattle.book.specs.InTurn.{ask}
 use Rattle.session.specs.declared.Session.{Session}
 use Rattle.session.specs.Calls.{start_question, session_started, strands_started, turn_question, session_after, strands_after}
 use Rattle.words.specs.Words.{shape_length, wrong_length, is_long}
-use Rattle.words.specs.Plain.{number_of, shape_in}
+use Rattle.words.specs.Plain.{shape_in}
 use Rattle.words.specs.Session.{session_length, session_words, session_in}
 use Rattle.recovery_line.specs.Machines.{as_process}
 use Rattle.recovery_line.specs.Sessions.{start_answer, start_session, start_strands, turn_answer, turn_session, turn_strands}
-use Rattle.recovery_line.proofs.Shells.{wrong, asked, question_is, kept, put, through}
+use Rattle.recovery_line.proofs.Shells.{wrong, asked, kept, put, through}
 
 -- ---- start
 
@@ -40,14 +39,12 @@ module _ (shape sent received : List ℕ) (initiator purpose : ℕ) (session str
         let e = wrong same (λ _. start_inside) some in
         (e, (kept e session _ some, kept e strands _ some))
 
-    module _ (none : q ≡ 0) {given : Shape} (given_is : given ≡ shape_in shape) {i : ℕ} (i_is : i ≡ initiator) {answer : Answer} {r : ℕ}
-        (number : r ≡ number_of answer) (answers : answer ≡ answer_to (start_question (lent given sent received) (as_process i) purpose strands))
+    module _ (none : q ≡ 0) {given : Shape} (given_is : given ≡ shape_in shape) {i : ℕ} (i_is : i ≡ initiator) {r : ℕ}
+        (of_call : r ≡ start_question (lent given sent received) (as_process i) purpose strands)
         {strands' : List ℕ} (left : strands' ≡ strands_started (lent given sent received) (as_process i) purpose strands)
       where
         of_start : r ≡ start_inside
-        of_start =
-            question_is start_inside number
-            (answers ∙ (λ t. answer_to (start_question (lent (given_is t) sent received) (as_process (i_is t)) purpose strands)))
+        of_start = of_call ∙ (λ t. start_question (lent (given_is t) sent received) (as_process (i_is t)) purpose strands)
 
         start_answered : r ≡ start_answer_lem
         unfolding start_answer
@@ -94,14 +91,11 @@ module _ (session shape sent received : List ℕ) (p : ℕ) (strands : List ℕ)
         (e, (kept e session _ some, kept e strands _ some))
 
     module _ (none : q ≡ 0) {given : Shape} (given_is : given ≡ shape_in shape) {k : ℕ} (k_is : k ≡ p) {held : Session}
-        (held_is : held ≡ session_in session) {answer : Answer} {r : ℕ} (number : r ≡ number_of answer)
-        (answers : answer ≡ answer_to (turn_question (lent given sent received) held (as_process k) strands))
+        (held_is : held ≡ session_in session) {r : ℕ} (of_call : r ≡ turn_question (lent given sent received) held (as_process k) strands)
         {strands' : List ℕ} (left : strands' ≡ strands_after (lent given sent received) held (as_process k) strands)
       where
         of_turn : r ≡ turn_inside
-        of_turn =
-            question_is turn_inside number
-            (answers ∙ (λ t. answer_to (turn_question (lent (given_is t) sent received) (held_is t) (as_process (k_is t)) strands)))
+        of_turn = of_call ∙ (λ t. turn_question (lent (given_is t) sent received) (held_is t) (as_process (k_is t)) strands)
 
         turn_answered : r ≡ turn_answer_lem
         unfolding turn_answer

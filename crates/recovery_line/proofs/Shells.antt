@@ -8,16 +8,19 @@ use native.Mathlib.Omega.{arith}
 use lib.ListN.{length, get_or}
 use lib.Seq.{sets}
 use borrow.Author.Tests.{eqb-true}
-use Rattle.book.specs.declared.Answer.{Answer}
+use Rattle.std.specs.Prelude.{Result, Err}
+use Rattle.book.specs.declared.Question.{Question}
 use Rattle.book.specs.declared.Checkpoint.{Checkpoint}
-use Rattle.book.specs.InTurn.{◌then◌, ask, answer_to, unless_refused}
+use Rattle.book.specs.InTurn.{◌then◌, ask, answer_with, unless_refused}
+use Rattle.book.specs.Numbers.{number, by_number}
 use Rattle.book.specs.Bounds.{most_processes}
 use Rattle.book.proofs.Questions.{then_passed, then_refused, asked_yes, kept_passed, kept_refused}
+use Rattle.book.proofs.Refusals.{refused_by, is_refused}
 use Rattle.lists.proofs.Tests.{and_both}
 use Rattle.lists.proofs.Over.{length_tab}
 use Rattle.consistency.specs.Set.{chosen}
 use Rattle.words.specs.Words.{wrong_length, is_long}
-use Rattle.words.specs.Plain.{number_of, number_words, set_words}
+use Rattle.words.specs.Plain.{number_words, set_words}
 use Rattle.words.proofs.Storing.{sets_all}
 
 -- ---- the lengths, once their question is answered by 0
@@ -51,13 +54,12 @@ module _ {q long : ℕ} (same : q ≡ long) (inside : Unit {0} → ℕ) where
   pub asked : q ≡ 0 → {r : ℕ} → r ≡ inside tt → r ≡ (long then inside)
   asked none e = e ∙ sym (then_passed long inside (sym same ∙ none))
 
--- the question that the answer of the call inside stands for
-number_of_answer : (q : ℕ) → number_of (answer_to q) ≡ q
-number_of_answer zero = refl
-number_of_answer (suc q) = refl
-
-pub question_is : (q : ℕ) {r : ℕ} {answer : Answer} → r ≡ number_of answer → answer ≡ answer_to q → r ≡ q
-question_is q e f = e ∙ ap number_of f ∙ number_of_answer q
+-- the number of the question that refuses the call inside
+pub question_is : {A : Type 0} {answer : Result A Question} {e : Question} (q : ℕ) (v : A) {r : ℕ} → by_number answer ≡ answer_with q v
+    → answer ≡ Err e → r ≡ number e → (r ≡ q) × (r ≡ 0 → ⊥)
+question_is q v answered is numbered =
+    let same = numbered ∙ sym (refused_by q v answered is) in
+    (same, λ none. is_refused q v answered is (sym same ∙ none))
 
 -- ---- what was lent
 

@@ -2,7 +2,7 @@
 ghost use Rattle.std.specs.Prelude.{◌≡◌};
 ghost use Rattle.recovery_line.specs.Books.{read_answer, read_shape, read_sent, read_received, check_answer, write_answer, write_out, write_length};
 
-use book::{Counter, WriteAnswer};
+use book::Counter;
 
 // A book's bytes into the tables, with its shape.
 pub fn recovery_line_read(
@@ -20,15 +20,13 @@ pub fn recovery_line_read(
     if question != 0 {
         return question;
     }
-    let found = reader::read(bytes, sent, received);
-    let answer = found.answer;
-    let question = words::number_of(answer);
-    if question != 0 {
-        return question;
+    match reader::read(bytes, sent, received) {
+        Ok(taken) => {
+            words::put_shape(taken, shape);
+            0
+        }
+        Err(question) => question.number(),
     }
-    let taken = found.shape;
-    words::put_shape(taken, shape);
-    0
 }
 
 // The questions of lent tables.
@@ -40,7 +38,10 @@ pub fn recovery_line_check(shape: &[u64], sent: &[Counter], received: &[Counter]
         return question;
     }
     let given = words::shape_in(shape);
-    tables::question(given, sent, received)
+    match tables::check(given, sent, received) {
+        Ok(()) => 0,
+        Err(question) => question.number(),
+    }
 }
 
 // The book of the tables to the start of a buffer, and its length.
@@ -60,12 +61,11 @@ pub fn recovery_line_write(
         return question;
     }
     let given = words::shape_in(shape);
-    let answer = writer::write(given, sent, received, out);
-    match answer {
-        WriteAnswer::Length(bytes) => {
+    match writer::write(given, sent, received, out) {
+        Ok(bytes) => {
             *length = words::of_number(bytes);
             0
         }
-        WriteAnswer::Refused(question) => question,
+        Err(question) => question.number(),
     }
 }

@@ -20,13 +20,11 @@ pub fn recovery_line_journal(
     if question != 0 {
         return question;
     }
-    let found = journal_reader::read(bytes, sent, received);
-    let answer = found.answer;
-    let question = words::number_of(answer);
-    if question != 0 {
-        return question;
+    match journal_reader::read(bytes, sent, received) {
+        Ok(taken) => {
+            words::put_shape(taken, shape);
+            0
+        }
+        Err(question) => question.number(),
     }
-    let taken = found.shape;
-    words::put_shape(taken, shape);
-    0
 }

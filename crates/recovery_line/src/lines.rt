@@ -4,7 +4,6 @@ ghost use Rattle.words.specs.Words.{pair_length};
 ghost use Rattle.recovery_line.specs.Lines.{test_answer, test_pair, column_answer, column_partner, find_answer, find_line, find_passed};
 
 use book::{Checkpoint, Counter, Process};
-use consistency::{CheckpointAnswer, SetAnswer};
 use words::layout;
 
 // A pair of processes, to a slice of its length.
@@ -39,17 +38,16 @@ pub fn recovery_line_test_set(
     }
     let given = words::shape_in(shape);
     let chosen = words::set_in(set);
-    let answer = consistency::test_set(given, sent, received, chosen);
-    match answer {
-        SetAnswer::Consistent => {
+    match consistency::test_set(given, sent, received, chosen) {
+        Ok(None) => {
             put_pair(0, 0, pair);
             0
         }
-        SetAnswer::AtFault(j, p) => {
+        Ok(Some((j, p))) => {
             put_pair(j.0, p.0, pair);
             0
         }
-        SetAnswer::Refused(question) => question,
+        Err(question) => question.number(),
     }
 }
 
@@ -74,17 +72,16 @@ pub fn recovery_line_test_checkpoint(
     let counts = words::counts_in(known);
     let j = Process(words::number(process));
     let r = Checkpoint(words::number(checkpoint));
-    let answer = consistency::test_checkpoint(given, sent, received, j, r, counts);
-    match answer {
-        CheckpointAnswer::Permitted => {
+    match consistency::test_checkpoint(given, sent, received, j, r, counts) {
+        Ok(None) => {
             *partner = 0;
             0
         }
-        CheckpointAnswer::Offends(p) => {
+        Ok(Some(p)) => {
             *partner = words::of_number(p.0);
             0
         }
-        CheckpointAnswer::Refused(question) => question,
+        Err(question) => question.number(),
     }
 }
 
@@ -105,14 +102,12 @@ pub fn recovery_line_find(
         return question;
     }
     let given = words::shape_in(shape);
-    let found = finder::find_line(given, sent, received);
-    let answer = found.answer;
-    let question = words::number_of(answer);
-    if question != 0 {
-        return question;
+    match finder::find_line(given, sent, received) {
+        Ok(found) => {
+            words::put_set(found.set, line, 0);
+            *passed = words::of_number(found.passed);
+            0
+        }
+        Err(question) => question.number(),
     }
-    let set = found.line;
-    words::put_set(set, line, 0);
-    *passed = words::of_number(found.passed);
-    0
 }

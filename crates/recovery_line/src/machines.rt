@@ -27,15 +27,13 @@ pub fn recovery_line_participant_first(
     let given = words::shape_in(shape);
     let process = Process(words::number(me));
     let inviter = Process(words::number(initiator));
-    let first = Participant::first(given, sent, received, process, inviter, purpose);
-    let answer = first.answer;
-    let question = words::number_of(answer);
-    if question != 0 {
-        return question;
+    match Participant::first(given, sent, received, process, inviter, purpose) {
+        Ok(first) => {
+            state_words::put_participant(first, state, 0);
+            0
+        }
+        Err(question) => question.number(),
     }
-    let made = first.state;
-    state_words::put_participant(made, state, 0);
-    0
 }
 
 // A participant receives a message.
@@ -65,17 +63,14 @@ pub fn recovery_line_participant_receive(
     }
     let given = words::shape_in(shape);
     let machine = state_words::participant_in(state);
-    let after = machine.receive(given, sent, received, message, out);
-    let answer = after.answer;
-    let question = words::number_of(answer);
-    if question != 0 {
-        return question;
+    match machine.receive(given, sent, received, message, out) {
+        Ok(after) => {
+            state_words::put_participant(after.state, state, 0);
+            words::put_numbers(after.lengths, lengths, 0);
+            0
+        }
+        Err(question) => question.number(),
     }
-    let next = after.state;
-    let written = after.lengths;
-    state_words::put_participant(next, state, 0);
-    words::put_numbers(written, lengths, 0);
-    0
 }
 
 // An initiator begins a search, or a bare restart.
@@ -106,17 +101,14 @@ pub fn recovery_line_initiator_begin(
     }
     let given = words::shape_in(shape);
     let process = Process(words::number(me));
-    let begun = Initiator::begin(given, sent, received, process, purpose, out);
-    let answer = begun.answer;
-    let question = words::number_of(answer);
-    if question != 0 {
-        return question;
+    match Initiator::begin(given, sent, received, process, purpose, out) {
+        Ok(begun) => {
+            state_words::put_initiator(begun.state, state, 0);
+            words::put_numbers(begun.lengths, lengths, 0);
+            0
+        }
+        Err(question) => question.number(),
     }
-    let next = begun.state;
-    let written = begun.lengths;
-    state_words::put_initiator(next, state, 0);
-    words::put_numbers(written, lengths, 0);
-    0
 }
 
 // An initiator receives a report.
@@ -146,15 +138,12 @@ pub fn recovery_line_initiator_receive(
     }
     let given = words::shape_in(shape);
     let machine = state_words::initiator_in(state);
-    let after = machine.receive(given, sent, received, message, out);
-    let answer = after.answer;
-    let question = words::number_of(answer);
-    if question != 0 {
-        return question;
+    match machine.receive(given, sent, received, message, out) {
+        Ok(after) => {
+            state_words::put_initiator(after.state, state, 0);
+            words::put_numbers(after.lengths, lengths, 0);
+            0
+        }
+        Err(question) => question.number(),
     }
-    let next = after.state;
-    let written = after.lengths;
-    state_words::put_initiator(next, state, 0);
-    words::put_numbers(written, lengths, 0);
-    0
 }

@@ -24,17 +24,14 @@ pub fn recovery_line_move(
         return question;
     }
     let given = words::shape_in(shape);
-    let done = moves::move_line(given, sent, received, purpose);
-    let answer = done.answer;
-    let question = words::number_of(answer);
-    if question != 0 {
-        return question;
+    match moves::move_line(given, sent, received, purpose) {
+        Ok(moved) => {
+            words::put_shape(moved.shape, shape);
+            words::put_order(moved.order, order);
+            0
+        }
+        Err(question) => question.number(),
     }
-    let kept = done.shape;
-    let restart = done.order;
-    words::put_shape(kept, shape);
-    words::put_order(restart, order);
-    0
 }
 
 // The restart order, and nothing moved.
@@ -53,13 +50,11 @@ pub fn recovery_line_restart_order(
         return question;
     }
     let given = words::shape_in(shape);
-    let found = plans::restart_order(given, sent, received, purpose);
-    let answer = found.answer;
-    let question = words::number_of(answer);
-    if question != 0 {
-        return question;
+    match plans::restart_order(given, sent, received, purpose) {
+        Ok(restart) => {
+            words::put_order(restart, order);
+            0
+        }
+        Err(question) => question.number(),
     }
-    let restart = found.order;
-    words::put_order(restart, order);
-    0
 }

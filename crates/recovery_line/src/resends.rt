@@ -2,7 +2,7 @@
 ghost use Rattle.std.specs.Prelude.{◌≡◌};
 ghost use Rattle.recovery_line.specs.Resends.{write_resend_answer, write_resend_out, write_resend_length, read_resend_answer, read_resend_list};
 
-use book::{Counter, WriteAnswer};
+use book::Counter;
 use words::layout;
 
 // The list of the tables' restart order to the start of a buffer, and its length.
@@ -23,13 +23,12 @@ pub fn recovery_line_write_resend(
         return question;
     }
     let given = words::shape_in(shape);
-    let answer = resend_writer::write(given, sent, received, purpose, out);
-    match answer {
-        WriteAnswer::Length(bytes) => {
+    match resend_writer::write(given, sent, received, purpose, out) {
+        Ok(bytes) => {
             *length = words::of_number(bytes);
             0
         }
-        WriteAnswer::Refused(question) => question,
+        Err(question) => question.number(),
     }
 }
 
@@ -41,13 +40,11 @@ pub fn recovery_line_read_resend(n: u64, bytes: &[u8], resend: &mut [u64]) -> u3
     if resend.len() != layout::RESEND_WORDS {
         return crate::WRONG_LENGTH;
     }
-    let found = resend_reader::read(words::number(n), bytes);
-    let answer = found.answer;
-    let question = words::number_of(answer);
-    if question != 0 {
-        return question;
+    match resend_reader::read(words::number(n), bytes) {
+        Ok(list) => {
+            words::put_resend(list, resend, 0);
+            0
+        }
+        Err(question) => question.number(),
     }
-    let list = found.resend;
-    words::put_resend(list, resend, 0);
-    0
 }

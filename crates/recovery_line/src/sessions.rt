@@ -25,15 +25,13 @@ pub fn recovery_line_session_start(
     }
     let given = words::shape_in(shape);
     let process = Process(words::number(initiator));
-    let begun = turns::start(given, sent, received, process, purpose, strands);
-    let answer = begun.answer;
-    let question = words::number_of(answer);
-    if question != 0 {
-        return question;
+    match turns::start(given, sent, received, process, purpose, strands) {
+        Ok(begun) => {
+            state_words::put_session(begun, session);
+            0
+        }
+        Err(question) => question.number(),
     }
-    let next = begun.session;
-    state_words::put_session(next, session);
-    0
 }
 
 // A turn on process p's strand.
@@ -56,15 +54,13 @@ pub fn recovery_line_session_turn(
     let given = words::shape_in(shape);
     let process = Process(words::number(p));
     let held = state_words::session_in(session);
-    let after = turns::turn(held, given, sent, received, process, strands);
-    let answer = after.answer;
-    let question = words::number_of(answer);
-    if question != 0 {
-        return question;
+    match turns::turn(held, given, sent, received, process, strands) {
+        Ok(after) => {
+            state_words::put_session(after, session);
+            0
+        }
+        Err(question) => question.number(),
     }
-    let next = after.session;
-    state_words::put_session(next, session);
-    0
 }
 
 // A search from its start to its end.
@@ -91,16 +87,14 @@ pub fn recovery_line_search(
     }
     let given = words::shape_in(shape);
     let process = Process(words::number(initiator));
-    let found = searches::search(given, sent, received, process, purpose);
-    let answer = found.answer;
-    let question = words::number_of(answer);
-    if question != 0 {
-        return question;
+    match searches::search(given, sent, received, process, purpose) {
+        Ok(found) => {
+            words::put_set(found.set, set, 0);
+            *newer = words::of_number(found.newer);
+            *rounds = words::of_tally(found.rounds);
+            *messages = words::of_tally(found.messages);
+            0
+        }
+        Err(question) => question.number(),
     }
-    let ended = found.set;
-    words::put_set(ended, set, 0);
-    *newer = words::of_number(found.newer);
-    *rounds = words::of_tally(found.rounds);
-    *messages = words::of_tally(found.messages);
-    0
 }

@@ -1,11 +1,9 @@
 -- The calls on lists of what to send again: write the list of the tables' restart order, read a list.
-use Rattle.std.specs.Prelude.{List, ℕ, length, leb}
+use Rattle.std.specs.Prelude.{List, ℕ, Result, length, leb}
 use Rattle.std.proofs.lemmas.List.Edits.{sets}
-use Rattle.book.specs.declared.WriteAnswer.{WriteAnswer}
 use Rattle.book.specs.Lent.{Tables}
-use Rattle.book.specs.InTurn.{◌then◌, ask, unless_refused}
+use Rattle.book.specs.InTurn.{◌then◌, ask, answer_with, unless_refused}
 use Rattle.book.specs.Read.{numbers_found}
-use Rattle.book.specs.Write.{length_or}
 use Rattle.restart.specs.declared.Resend.{Resend}
 use Rattle.restart.specs.Calls.{no_resend, move_question, order_given}
 use Rattle.resend.specs.Layout.{list_bytes, list_in}
@@ -22,8 +20,9 @@ module _ (tables : Tables) (purpose : ℕ) where
   unfoldable pub write_list_question : List ℕ → ℕ
   write_list_question out = move_question tables purpose then λ _. ask 17 (leb (length bytes_to_resend) (length out))
 
-  unfoldable pub answer_to_write_list : List ℕ → WriteAnswer
-  answer_to_write_list out = length_or (write_list_question out) (length bytes_to_resend)
+  -- the length written, or the question that refuses
+  unfoldable pub answer_to_write_list : List ℕ → Result ℕ ℕ
+  answer_to_write_list out = answer_with (write_list_question out) (length bytes_to_resend)
 
   -- the buffer afterwards: the bytes at its start, those after them untouched
   unfoldable pub list_written : List ℕ → List ℕ

@@ -1,4 +1,5 @@
 -- Whole lists: as numbers, as bytes, and what is read in bytes that the questions pass.
+use Rattle.std.specs.Prelude.{Option, Some, None}
 use mathlib.Core.Path.{◌≡◌, refl, sym, ap, ◌∙◌}
 use mathlib.Core.Bool.{Bool, true}
 use mathlib.Core.List.{List, [], ◌∷◌, ◌++◌, append-nil}
@@ -9,8 +10,6 @@ use lib.ListN.{length, length-append}
 use lib.Seq.{drop-length}
 use lib.Dec.{T}
 use lib.Pow.{are_bytes}
-use Rattle.varint.specs.declared.Numeral.{Numeral}
-use Rattle.varint.specs.declared.Numeral.TheVariants.{Number, Refused}
 use Rattle.varint.specs.Number.{encode, read_number}
 use Rattle.varint.specs.Sequence.{Numbers, encode_all, numbers_at}
 use Rattle.varint.proofs.Encode.{encode_size}
@@ -39,14 +38,14 @@ use Rattle.resend_laws.proofs.Sizes.{count_few, from_bytes}
 -- none is above the limit
 found_limit : (g l : ℕ) (s : List ℕ) (fuel at : ℕ) → length s ≤ at + fuel → AtMost l (numbers_at g l s at).found
 found_limit g l s zero at h =
-    let e : read_number g l s at ≡ Refused = read_past g l s at (omega arith) in
+    let e : read_number g l s at ≡ None = read_past g l s at (omega arith) in
     rw (numbers_none g l s at e) (λ i m. absurd (omega arith))
 found_limit g l s (suc fuel) at h = go (read_number g l s at) refl (found_limit g l s fuel)
   where
-    go : (r : Numeral) → read_number g l s at ≡ r → ((next : ℕ) → length s ≤ next + fuel → AtMost l (numbers_at g l s next).found)
+    go : (r : Option (ℕ × ℕ)) → read_number g l s at ≡ r → ((next : ℕ) → length s ≤ next + fuel → AtMost l (numbers_at g l s next).found)
         → AtMost l (numbers_at g l s at).found
-    go Refused e ih = rw (numbers_none g l s at e) (λ i m. absurd (omega arith))
-    go (Number v next) e ih =
+    go None e ih = rw (numbers_none g l s at e) (λ i m. absurd (omega arith))
+    go (Some (v, next)) e ih =
         let on = read_next g l s at v next e in
         rw (numbers_more g l s at v next e) (most_cons l v (numbers_at g l s next).found on.2 (ih next (omega arith)))
 

@@ -1,4 +1,5 @@
 -- The loop over entries, pass by pass.
+use Rattle.std.specs.Prelude.{Option, Some, None}
 use mathlib.Core.Path.{◌≡◌, refl, sym, ap, ◌∙◌}
 use mathlib.Core.List.{List, [], ◌∷◌}
 use Prim.Native.Nat.{ℕ, zero, suc, ◌+◌, ◌-◌, ◌≤◌, ◌<◌}
@@ -6,27 +7,22 @@ use native.Mathlib.Omega.{arith}
 use lib.ListN.{length, set, length-set}
 use lib.Dec.{eqb}
 use borrow.Author.Tests.{eq-eqb, ne_eqb}
-use Rattle.varint.specs.declared.Numeral.{Numeral}
-use Rattle.varint.specs.declared.Numeral.TheVariants as numeral
 use Rattle.varint.specs.Number.{read_number}
 use Rattle.varint.specs.Sequence.{Numbers}
 use Rattle.varint.proofs.Reading.{read_past}
 use Rattle.varint.proofs.Sequence.{numbers_none, numbers_more}
 use Rattle.book.specs.declared.Count.{Count}
-use Rattle.book.specs.declared.Answer.TheVariants.{Accepted, Refused}
 use Rattle.book.specs.Bounds.{groups, largest}
-use Rattle.book.specs.InTurn.{◌then◌, answer_to}
+use Rattle.book.specs.InTurn.{◌then◌}
 use Rattle.book.specs.Read.{numbers_from}
-use Rattle.book.proofs.Questions.{then_passed, then_refused, ask_yes, ask_no, answer_passed, answer_refused, kept_passed, kept_refused}
+use Rattle.book.proofs.Questions.{then_passed, then_refused, ask_yes, ask_no}
 use Rattle.restart.specs.declared.Resend.{Resend}
 use Rattle.restart.specs.Calls.{no_resend}
 use Rattle.resend.specs.Layout.{channel_at, with_entry, entries_in}
 use Rattle.resend.specs.Questions.{entry_question, entries_question}
 use Rattle.resend.proofs.Entries.{asked_done, asked_short, asked_more, taken_none, taken_more}
 use Rattle.resend_reader.specs.declared.Entry.{Entry}
-use Rattle.resend_reader.specs.declared.EntryRead.TheVariants.{Found}
-use Rattle.resend_reader.specs.declared.ListAnswer.{ListAnswer}
-use Rattle.resend_reader.specs.Parts.{EntryFound, question_from, EntriesFound}
+use Rattle.resend_reader.specs.Parts.{EntryFound, question_from, entries_from}
 
 -- the question that so many entries fail, after one of the channel from s to r, of the numbers found, in bytes so long
 abbrev question_of : ℕ → ℕ → ℕ → ℕ → ℕ → Numbers → ℕ
@@ -39,7 +35,7 @@ pub record Sofar (n : ℕ) (s : List ℕ) (at count : ℕ) (first last : List Co
   pub long_last : length last ≡ 256
   pub asked : question_from n s at count ≡ question_of (length s) n sender receiver (count - k) (numbers_from s next)
   pub carried :
-      entries_in no_resend (numbers_from s at).found ≡ entries_in (record { first = first; last = last }) (numbers_from s next).found
+      entries_from s at ≡ entries_in (record { first = first; last = last }) (numbers_from s next).found
 
 pub sofar_begun : (n : ℕ) (s : List ℕ) (at count : ℕ) → Sofar n s at count no_resend.first no_resend.last 0 0 at 0
 sofar_begun n s at count =
@@ -50,15 +46,6 @@ sofar_begun n s at count =
       long_last = refl;
       asked = ap (λ (m : ℕ). question_of (length s) n 0 0 m (numbers_from s at)) (sym all);
       carried = refl;
-    }
-
--- a question fails: it is the answer, with nothing to send again
-pub refused_by : (n : ℕ) (s : List ℕ) (at count question : ℕ) (read : ListAnswer) → question_from n s at count ≡ question
-    → (question ≡ 0 → ⊥) → (read.answer ≡ Refused question) × (read.resend ≡ no_resend) → EntriesFound n s at count read
-refused_by n s at count question read e some told =
-    record {
-      asked = told.0 ∙ sym (ap answer_to e ∙ answer_refused question some);
-      taken = told.1 ∙ sym (kept_refused (question_from n s at count) no_resend _ (λ z. some (sym e ∙ z)));
     }
 
 module _ (n : ℕ) (s : List ℕ) (at count : ℕ) (first last : List Count) (sender receiver next k : ℕ)
@@ -79,7 +66,7 @@ module _ (n : ℕ) (s : List ℕ) (at count : ℕ) (first last : List Count) (se
         left_asked (numbers_from s next) refl
         ∙ asked_short n sender receiver (eqb (numbers_from s next).stop (length s)) (count - (k + 1)) (numbers_from s next).found few
 
-    module _ (entry : Entry) (after : ℕ) (found : EntryFound s next (Found entry after)) where
+    module _ (entry : Entry) (after : ℕ) (found : EntryFound s next (Some (entry, after))) where
       step : question_from n s at count
           ≡ (entry_question n sender receiver entry.sender entry.receiver entry.first entry.last then λ _.
           question_of (length s) n entry.sender entry.receiver (count - (k + 1)) (numbers_from s after))
@@ -126,27 +113,24 @@ module _ (n : ℕ) (s : List ℕ) (at count : ℕ) (first last : List Count) (se
     pub sofar_over : (next ≡ length s → ⊥) → question_from n s at count ≡ 21
     sofar_over over = go (read_number groups largest s next) refl
       where
-        go : (r : Numeral) → read_number groups largest s next ≡ r → question_from n s at count ≡ 21
-        go numeral.Refused e =
+        go : (r : Option (ℕ × ℕ)) → read_number groups largest s next ≡ r → question_from n s at count ≡ 21
+        go None e =
             end_asked (record { found = []; stop = next }) (numbers_none groups largest s next e)
             ∙ asked_done n sender receiver (eqb next (length s)) [] ∙ ask_no 21 (eqb next (length s)) (ne_eqb next (length s) over)
-        go (numeral.Number v after) e =
+        go (Some (v, after)) e =
             end_asked (record { found = v ∷ (numbers_from s after).found; stop = (numbers_from s after).stop }) (numbers_more groups largest s next v after e)
             ∙ asked_done n sender receiver (eqb (numbers_from s after).stop (length s)) (v ∷ (numbers_from s after).found)
 
     -- none are
     pub sofar_ended : next ≡ length s
-        → EntriesFound n s at count (record { answer = Accepted; resend = record { first = first; last = last } })
+        → (question_from n s at count ≡ 0) × ◌≡◌ {A = Resend} (record { first = first; last = last }) (entries_from s at)
     sofar_ended ends =
         let none : numbers_from s next ≡ record { found = []; stop = next }
         = numbers_none groups largest s next (read_past groups largest s next (omega arith)) in
         let passed : question_from n s at count ≡ 0
         = end_asked (record { found = []; stop = next }) none ∙ asked_done n sender receiver (eqb next (length s)) []
         ∙ ask_yes 21 (eqb next (length s)) (eq-eqb next (length s) ends) in
-        let whole : entries_in no_resend (numbers_from s at).found ≡ record { first = first; last = last }
+        let whole : entries_from s at ≡ record { first = first; last = last }
         = inv.carried ∙ ap (λ (ns : Numbers). entries_in (record { first = first; last = last }) ns.found) none
         ∙ taken_none (record { first = first; last = last }) in
-        record {
-          asked = sym (answer_passed (question_from n s at count) passed);
-          taken = sym (kept_passed (question_from n s at count) no_resend _ passed ∙ whole);
-        }
+        (passed, sym whole)

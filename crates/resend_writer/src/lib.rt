@@ -4,11 +4,12 @@ ghost use Rattle.std.specs.Prelude.{◌≡◌, true, ◌+◌, ◌*◌, ◌≤◌
 ghost use Rattle.std.proofs.lemmas.List.Edits.{sets};
 ghost use Rattle.varint.specs.Sequence.{encode_all};
 ghost use Rattle.book.specs.Lent.{lent};
+ghost use Rattle.book.specs.Numbers.{by_number};
 ghost use Rattle.restart.specs.Values.{matrix_entries};
 ghost use Rattle.resend.specs.Layout.{has_entry, one_entry, entry_count, entries_of, entry_size, list_bytes};
 ghost use Rattle.resend.specs.Calls.{answer_to_write_list, list_written};
 
-use book::{Answer, Count, Counter, Shape, WriteAnswer};
+use book::{Count, Counter, Question, Shape};
 use restart::Resend;
 
 // Has a channel an entry, by its first message?
@@ -25,12 +26,10 @@ fn entry_count(list: Resend) -> usize
 {
     let firsts = list.first;
     let mut count = 0;
-    let mut i = 0;
-    while i < matrix::ENTRIES {
+    for i in 0..matrix::ENTRIES {
         if has_entry(firsts[i]) {
             count += 1;
         }
-        i += 1;
     }
     count
 }
@@ -54,13 +53,11 @@ fn entries_size(list: Resend) -> usize
     let firsts = list.first;
     let lasts = list.last;
     let mut size = 0;
-    let mut i = 0;
-    while i < matrix::ENTRIES {
+    for i in 0..matrix::ENTRIES {
         let first = firsts[i];
         if has_entry(first) {
             size += entry_size(i, first, lasts[i]);
         }
-        i += 1;
     }
     size
 }
@@ -93,13 +90,11 @@ fn put_entries(list: Resend, out: &mut [u8], at: usize) -> usize
     let firsts = list.first;
     let lasts = list.last;
     let mut next = at;
-    let mut i = 0;
-    while i < matrix::ENTRIES {
+    for i in 0..matrix::ENTRIES {
         let first = firsts[i];
         if has_entry(first) {
             next = put_entry(i, first, lasts[i], out, next);
         }
-        i += 1;
     }
     next
 }
@@ -122,22 +117,14 @@ pub fn write(
     received: &[Counter],
     purpose: u64,
     out: &mut [u8],
-) -> WriteAnswer
-    ensures answer { result ≡ answer_to_write_list (lent shape sent.now received.now) purpose out.old }
+) -> Result<usize, Question>
+    ensures answer { by_number result ≡ answer_to_write_list (lent shape sent.now received.now) purpose out.old }
     ensures bytes { out.new ≡ list_written (lent shape sent.now received.now) purpose out.old }
 {
-    let found = plans::restart_order(shape, sent, received, purpose);
-    let answer = found.answer;
-    let order = found.order;
+    let order = plans::restart_order(shape, sent, received, purpose)?;
     let list = order.resend;
-    match answer {
-        Answer::Refused(question) => WriteAnswer::Refused(question),
-        Answer::Accepted => {
-            if out.len() < list_size(list) {
-                return WriteAnswer::Refused(17);
-            }
-            let size = put_list(list, out);
-            WriteAnswer::Length(size)
-        }
+    if out.len() < list_size(list) {
+        return Err(Question::Room);
     }
+    Ok(put_list(list, out))
 }

@@ -1,4 +1,5 @@
 -- A write: when it answers a length, and what it leaves then.
+use Rattle.std.specs.Prelude.{Ok}
 use mathlib.Core.Path.{◌≡◌, ◌∙◌}
 use mathlib.Core.List.{List, ◌++◌}
 use Prim.Native.Nat.{ℕ, zero, suc, ◌≤◌}
@@ -9,13 +10,13 @@ use lib.ListN.{length, take, drop}
 use lib.Seq.{sets, sets-eq, take_at}
 use lib.Dec.{leb}
 use Rattle.book.specs.Lent.{Tables}
-use Rattle.book.specs.declared.WriteAnswer.TheVariants.{Length}
-use Rattle.book.specs.InTurn.{ask}
+use Rattle.book.specs.InTurn.{ask, answer_with}
 use Rattle.book.specs.Check.{tables_question}
-use Rattle.book.specs.Write.{bytes_of, write_question, length_or, answer_to_write, bytes_written}
+use Rattle.book.specs.Write.{bytes_of, write_question, answer_to_write, bytes_written}
 use Rattle.book.proofs.Questions.{then_none, then_both, asked_yes, ask_yes, kept_passed}
 
-length_answer : (q m long : ℕ) → length_or q m ≡ Length long → (q ≡ 0) × (m ≡ long)
+length_answer : (q m long : ℕ) → answer_with q m ≡ Ok long → (q ≡ 0) × (m ≡ long)
+unfolding answer_with
 length_answer zero m long e = (cc, cc)
 length_answer (suc q) m long e = let z : ◌≡◌ {A = ℕ} 0 1 = cc in absurd (omega arith)
 
@@ -39,11 +40,11 @@ module _ (t : Tables) (out : List ℕ) where
       let a = then_none (tables_question t) from_room h in
       (a.0, leb-true (length bytes) (length out) (asked_yes 16 (leb (length bytes) (length out)) a.1))
 
-  pub answer_given : write_question t out ≡ 0 → answer_to_write t out ≡ Length (length bytes)
-  unfolding answer_to_write
+  pub answer_given : write_question t out ≡ 0 → answer_to_write t out ≡ Ok (length bytes)
+  unfolding answer_to_write answer_with
   answer_given h = rw h
 
-  pub answer_taken : (long : ℕ) → answer_to_write t out ≡ Length long → (write_question t out ≡ 0) × (length bytes ≡ long)
+  pub answer_taken : (long : ℕ) → answer_to_write t out ≡ Ok long → (write_question t out ≡ 0) × (length bytes ≡ long)
   unfolding answer_to_write
   answer_taken long e = length_answer (write_question t out) (length bytes) long e
 
@@ -54,7 +55,7 @@ module _ (t : Tables) (out : List ℕ) where
       kept_passed (write_question t out) out (sets out 0 bytes) h
       ∙ rw (zero-add (length bytes)) at (sets-eq bytes out 0 (rw (zero-add (length bytes)) (write_taken h).1))
 
-  pub bytes_left : (long : ℕ) → answer_to_write t out ≡ Length long → take long (bytes_written t out) ≡ bytes
+  pub bytes_left : (long : ℕ) → answer_to_write t out ≡ Ok long → take long (bytes_written t out) ≡ bytes
   bytes_left long e =
       let a = answer_taken long e in
       rw (buffer_left a.0) (take_at bytes (drop (length bytes) out) long a.1)

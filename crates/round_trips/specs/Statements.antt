@@ -1,9 +1,8 @@
 -- Demand 1 and 2 for books and tables, as statements about the definitions that the contracts of `read`, `check` and
 -- `write` cite. A slice of bytes holds numbers below 256, and a shape's array has sixteen counts.
 -- `T b` is the library's "b is true", not document 01's T.
-use Rattle.std.specs.Prelude.{◌≡◌, List, ◌++◌, ◌↔◌, ℕ, suc, ◌+◌, ◌-◌, ◌≤◌, ◌<◌, length, take, drop, T}
+use Rattle.std.specs.Prelude.{◌≡◌, List, ◌++◌, ◌↔◌, ℕ, suc, ◌+◌, ◌-◌, ◌≤◌, ◌<◌, length, take, drop, T, Ok}
 use Rattle.std.proofs.Math.Pow.{are_bytes}
-use Rattle.book.specs.declared.WriteAnswer.TheVariants.{Length}
 use Rattle.book.specs.Bounds.{most_bytes, most_processes, entries}
 use Rattle.book.specs.Lent.{Tables}
 use Rattle.book.specs.Tables.{shape_of, sent_table, received_table, book_of, partner_column}
@@ -21,14 +20,14 @@ abbrev pub ReadThenWritten : Type 0
 ReadThenWritten =
     (bytes sent received out : List ℕ) → T (are_bytes bytes) → read_question bytes sent received ≡ 0 → length bytes ≤ length out
     → let tables : Tables = tables_read bytes sent received in
-    (answer_to_write tables out ≡ Length (length bytes)) × (bytes_written tables out ≡ bytes ++ drop (length bytes) out)
+    (answer_to_write tables out ≡ Ok (length bytes)) × (bytes_written tables out ≡ bytes ++ drop (length bytes) out)
 
 -- Tables written, with a length for an answer, and so many bytes of the buffer then read, into any two tables of 4,096
 -- entries, are the old tables.
 abbrev pub WrittenThenRead : Type 0
 WrittenThenRead =
     (tables : Tables) (out into into' : List ℕ) (long : ℕ) → length tables.shape.counts ≡ most_processes
-    → length into ≡ entries → length into' ≡ entries → answer_to_write tables out ≡ Length long
+    → length into ≡ entries → length into' ≡ entries → answer_to_write tables out ≡ Ok long
     → let bytes : List ℕ = take long (bytes_written tables out) in
     (read_question bytes into into' ≡ 0)
     × (shape_read bytes into into' ≡ tables.shape)

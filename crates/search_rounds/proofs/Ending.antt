@@ -13,7 +13,7 @@ use Rattle.book.specs.declared.Process.{Process}
 use Rattle.book.specs.Bounds.{mark}
 use Rattle.lists.specs.Over.{sum_to}
 use Rattle.line_theory.specs.Sets.{View}
-use Rattle.line_theory.specs.Search.{permitted, newest, sent_to}
+use Rattle.line_theory.specs.Search.{permitted, sent_to}
 use Rattle.line_theory.proofs.Tests.{permitted_in, permitted_out}
 use Rattle.line_theory.proofs.Theorems.{newest_is_newest, permitted_is_consistent, consistent_above_is_line}
 use Rattle.consistency.specs.Known.{counters}

@@ -8,31 +8,49 @@ use native.Mathlib.Omega.{arith}
 use lib.ListN.{length, drop, get_or, drop_of_length-le}
 use lib.Seq.{drop-cons}
 use Rattle.book.specs.Lent.{Tables, lent}
-use Rattle.book.specs.declared.Answer.{Answer}
-use Rattle.book.specs.declared.Answer.TheVariants.{Accepted}
+use Rattle.std.specs.Prelude.{Result, Err}
+use Rattle.book.specs.declared.Question.{Question}
 use Rattle.book.specs.declared.Shape.{Shape}
 use Rattle.book.specs.declared.Process.{Process}
-use Rattle.book.specs.InTurn.{◌then◌, ask, answer_to}
+use Rattle.book.specs.InTurn.{◌then◌, ask, answer_with}
+use Rattle.book.specs.Numbers.{number, by_number}
 use Rattle.book.specs.Read.{book_read, no_shape, read_question, shape_read, sent_read, received_read}
-use Rattle.book.specs.Tables.{sent_table, received_table}
-use Rattle.book.proofs.Questions.{then_none, then_passed, then_refused, answer_passed, kept_passed, kept_refused}
+use Rattle.book.specs.Tables.{shape_of, sent_table, received_table}
+use Rattle.book.proofs.Questions.{then_none, then_passed, then_refused, kept_passed, kept_refused}
+use Rattle.book.proofs.Refusals.{is_refused}
 use Rattle.book.specs.Names.{is_named, is_purpose}
 use Rattle.session.specs.declared.Session.{Session}
-use Rattle.session.specs.Calls.{no_session}
+use Rattle.session.specs.Calls.{start_question, no_session, session_started, turn_question, session_after}
 use Rattle.session.specs.Turns.{Ongoing, started, after_turn, after_turns}
 use Rattle.session_theory.proofs.Search.{Search, IsSearch}
 use Rattle.session_theory.proofs.Facts.{few}
+use Rattle.turns.proofs.Answers.{no_pass, kept}
 use Rattle.demand3.specs.Statement.{Beginning, shape_left, IsAccepted, Searches, after, HoldsAfter}
 use Rattle.demand3.proofs.Start.{search_of, read_search}
 use Rattle.demand3.proofs.Theorems.{demand_3, start_has_room}
 use Rattle.searches.specs.Lowest.{strands_inside}
-use Rattle.searches.specs.Run.{as_processes, run_question, beginning, shape_run, sent_run, received_run, session_run, CarriesDemand3}
+use Rattle.searches.specs.declared.RunEnd.{RunEnd}
+use Rattle.searches.specs.Run.{as_processes, run_question, beginning, shape_run, sent_run, received_run, session_run, run_end, CarriesDemand3}
 use Rattle.searches.proofs.Begin.{room_inside}
 use Rattle.searches.proofs.Theorems.{named_purposed}
 
 -- ---- a list of turns
 
 module _ (t : Tables) where
+  -- a turn that is refused leaves the session, and where a start is there is none
+  pub turn_refused : (o : Ongoing) (p : Process) {r : Result Session Question} {e : Question}
+      → by_number r ≡ answer_with (turn_question t o.session p o.strands) (session_after t o.session p o.strands) → r ≡ Err e
+      → o.session ≡ session_after t o.session p o.strands
+  unfolding session_after
+  turn_refused o p h was = sym (kept_refused (turn_question t o.session p o.strands) o.session _ (is_refused _ _ h was))
+
+  pub start_refused : (initiator : Process) (purpose : ℕ) (strands : List ℕ) {r : Result Session Question} {e : Question}
+      → by_number r ≡ answer_with (start_question t initiator purpose strands) (session_started t initiator purpose strands) → r ≡ Err e
+      → no_session ≡ session_started t initiator purpose strands
+  unfolding session_started
+  start_refused initiator purpose strands h was =
+      sym (kept_refused (start_question t initiator purpose strands) no_session _ (is_refused _ _ h was))
+
   -- from o₀ on the first i turns have led to o
   pub record Taken (o₀ o : Ongoing) (list : List ℕ) (i : ℕ) : Type 0 where
     pub within : i ≤ length list
@@ -116,56 +134,35 @@ module _ (bytes sent received : List ℕ) (initiator : Process) (purpose : ℕ) 
   abbrev begins : ℕ → ℕ
   begins n = ask 10 (is_named n initiator.0) then λ _. ask 11 (is_purpose purpose)
 
-  -- the answer, what stands beside it, and what is left in the tables
-  abbrev pub RunAnswers : Answer → Shape → Session → List ℕ → List ℕ → Type 0
-  RunAnswers answer shape session sent' received' =
-      (answer ≡ answer_to question)
-      × ((shape ≡ shape_run bytes sent received initiator purpose)
-      × ((session ≡ session_run bytes sent received initiator purpose list)
-      × ((sent' ≡ sent_run bytes sent received initiator purpose)
-      × ((received' ≡ received_run bytes sent received initiator purpose)
-      × CarriesDemand3 bytes sent received initiator purpose list))))
-
-  carries : CarriesDemand3 bytes sent received initiator purpose list
+  pub carries : CarriesDemand3 bytes sent received initiator purpose list
   carries accepted searches = run_holds bytes sent received initiator purpose accepted searches list
 
-  pub read_refuses : (found : ℕ) → found ≡ reads → (found ≡ 0 → ⊥) → question ≡ found
+  pub read_refuses : (e : Question) → reads ≡ number e → question ≡ number e
   unfolding run_question
-  read_refuses found e some = then_refused reads (λ _. begins (shape_read bytes sent received).n) (λ none. some (e ∙ none)) ∙ sym e
+  read_refuses e h = then_refused reads (λ _. begins (shape_read bytes sent received).n) (no_pass e reads h) ∙ h
 
-  pub read_passes : (found later : ℕ) (shape : Shape) → found ≡ reads → found ≡ 0 → shape ≡ shape_read bytes sent received
-      → later ≡ begins shape.n → question ≡ later
+  read_shape : (shape : Shape) → reads ≡ 0 → shape ≡ shape_of (book_read bytes) → shape ≡ shape_read bytes sent received
+  unfolding shape_read
+  read_shape shape none same = same ∙ sym (kept_passed reads no_shape (shape_of (book_read bytes)) none)
+
+  pub read_passes : (shape : Shape) → reads ≡ 0 → shape ≡ shape_of (book_read bytes) → question ≡ begins shape.n
   unfolding run_question
-  read_passes found later shape e none same f =
-      then_passed reads (λ _. begins (shape_read bytes sent received).n) (sym e ∙ none)
-      ∙ ap (λ (s : Shape). begins s.n) (sym same)
-      ∙ sym f
+  read_passes shape none same =
+      then_passed reads (λ _. begins (shape_read bytes sent received).n) none
+      ∙ ap (λ (s : Shape). begins s.n) (sym (read_shape shape none same))
 
   -- a refusal changes nothing
-  pub run_refused : (found : ℕ) → question ≡ found → (found ≡ 0 → ⊥) → (answer : Answer) (shape : Shape) (session : Session)
-      → (answer ≡ answer_to found) × ((shape ≡ no_shape) × (session ≡ no_session)) → RunAnswers answer shape session sent received
-  unfolding shape_run session_run sent_run received_run
-  run_refused found e some answer shape session (a, (b, c)) =
-      let fails : question ≡ 0 → ⊥ = λ none. some (sym e ∙ none) in (
-        a ∙ ap answer_to (sym e),
-        (
-          b ∙ sym (kept_refused question no_shape _ fails),
-          (
-            c ∙ sym (kept_refused question no_session _ fails),
-            (
-              sym (kept_refused question sent _ fails),
-              (sym (kept_refused question received _ fails), carries),
-            ),
-          ),
-        ),
-      )
+  pub run_refused : (e : Question) → question ≡ number e
+      → (sent ≡ sent_run bytes sent received initiator purpose) × (received ≡ received_run bytes sent received initiator purpose)
+  unfolding sent_run received_run
+  run_refused e h = (kept e question sent _ h, kept e question received _ h)
 
   module _
       (accepted : question ≡ 0)
       (shape : Shape)
       (sent' received' : List ℕ)
       (session : Session)
-      (Shape-is : shape ≡ shape_read bytes sent received)
+      (same : shape ≡ shape_of (book_read bytes))
       (sent_is : sent' ≡ sent_table (book_read bytes))
       (received_is : received' ≡ received_table (book_read bytes))
       (session_is :
@@ -174,6 +171,9 @@ module _ (bytes sent received : List ℕ) (initiator : Process) (purpose : ℕ) 
     where
       reads_none : reads ≡ 0
       reads_none = run_read bytes sent received initiator purpose accepted
+
+      Shape-is : shape ≡ shape_read bytes sent received
+      Shape-is = read_shape shape reads_none same
 
       sent_read_lem : sent' ≡ sent_read bytes sent received
       unfolding sent_read
@@ -186,21 +186,21 @@ module _ (bytes sent received : List ℕ) (initiator : Process) (purpose : ℕ) 
       abbrev begun : Beginning
       begun = beginning bytes sent received initiator purpose
 
-      session_after : session ≡ (after begun (as_processes list)).session
-      session_after = rw (Shape-is, sent_read_lem, received_read_lem) at session_is
+      session_there : session ≡ (after begun (as_processes list)).session
+      session_there = rw (Shape-is, sent_read_lem, received_read_lem) at session_is
 
-      pub run_answered : RunAnswers Accepted shape session sent' received'
-      unfolding shape_run session_run sent_run received_run
-      run_answered = (
-        sym (answer_passed question accepted),
-        (
-          Shape-is ∙ sym (kept_passed question no_shape (shape_read bytes sent received) accepted),
-          (
-            session_after ∙ sym (kept_passed question no_session (after begun (as_processes list)).session accepted),
-            (
-              sent_read_lem ∙ sym (kept_passed question sent (sent_read bytes sent received) accepted),
-              (received_read_lem ∙ sym (kept_passed question received (received_read bytes sent received) accepted), carries),
-            ),
-          ),
-        ),
+      pub run_answered : ◌≡◌ {A = RunEnd} (record { shape = shape; session = session }) (run_end bytes sent received initiator purpose list)
+      unfolding shape_run session_run
+      run_answered =
+          let of_shape : shape ≡ shape_run bytes sent received initiator purpose =
+          Shape-is ∙ sym (kept_passed question no_shape (shape_read bytes sent received) accepted) in
+          let of_session : session ≡ session_run bytes sent received initiator purpose list =
+          session_there ∙ sym (kept_passed question no_session (after begun (as_processes list)).session accepted) in
+          λ i. record { shape = of_shape i; session = of_session i }
+
+      pub run_filled : (sent' ≡ sent_run bytes sent received initiator purpose) × (received' ≡ received_run bytes sent received initiator purpose)
+      unfolding sent_run received_run
+      run_filled = (
+        sent_read_lem ∙ sym (kept_passed question sent (sent_read bytes sent received) accepted),
+        received_read_lem ∙ sym (kept_passed question received (received_read bytes sent received) accepted),
       )

@@ -8,6 +8,7 @@ use Rattle.book.specs.Names.{is_named, is_purpose}
 use Rattle.session.specs.declared.Session.{Session}
 use Rattle.session.specs.Calls.{no_session}
 use Rattle.demand3.specs.Statement.{Beginning, Searches, after, HoldsAfter}
+use Rattle.searches.specs.declared.RunEnd.{RunEnd}
 use Rattle.searches.specs.Lowest.{strands_inside}
 
 -- the turns name these processes
@@ -53,3 +54,7 @@ module _ (bytes sent received : List ℕ) (initiator : Process) (purpose : ℕ) 
 
   unfoldable pub session_run : List ℕ → Session
   session_run turns = unless_refused run_refusal no_session (after beginning (as_processes turns)).session
+
+  -- both
+  abbrev pub run_end : List ℕ → RunEnd
+  run_end turns = record { shape = shape_run; session = session_run turns }

@@ -16,6 +16,7 @@ use Rattle.book.specs.Names.{is_named, is_purpose}
 use Rattle.session.specs.declared.Session.{Session}
 use Rattle.session.specs.Workers.{stands_on, has_ended}
 use Rattle.demand3.specs.Statement.{message_waits}
+use Rattle.searches.specs.declared.SearchEnd.{SearchEnd}
 use Rattle.searches.specs.Lowest.{searched}
 
 unfoldable pub search_question : Tables → Process → ℕ → ℕ
@@ -48,6 +49,10 @@ module _ (tables : Tables) (initiator : Process) (purpose : ℕ) where
 
   unfoldable pub messages_searched : ℕ
   messages_searched = unless_refused search_refusal 0 (searched tables initiator purpose).session.delivered
+
+  -- all of these
+  abbrev pub search_end : SearchEnd
+  search_end = record { set = set_searched; newer = newer_searched; rounds = rounds_searched; messages = messages_searched }
 
   -- in the session that ran everybody has ended there, and nothing waits
   abbrev pub EndedThere : Type 0

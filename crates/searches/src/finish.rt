@@ -19,12 +19,10 @@ use session::Session;
 fn lowest_waiting(lengths: [usize; 16]) -> Process
     ensures { (session : Session) → session.lengths ≡ lengths → result ≡ lowest_waiting session }
 {
-    let mut k = 0;
-    while k < book::MOST_PROCESSES {
+    for k in 0..book::MOST_PROCESSES {
         if lengths[k] != 0 {
             return Process(k + 1);
         }
-        k += 1;
     }
     Process(0)
 }
@@ -63,15 +61,13 @@ pub(crate) fn stands(session: Session) -> [Checkpoint; 16]
     let initiator = session.initiator;
     let own = initiator.0 - 1;
     let mut set = [Checkpoint(0); 16];
-    let mut j = 0;
-    while j < book::MOST_PROCESSES {
+    for j in 0..book::MOST_PROCESSES {
         let participant = participants[j];
         set[j] = if j == own {
             machine.candidate
         } else {
             participant.candidate
         };
-        j += 1;
     }
     set
 }
@@ -83,11 +79,9 @@ pub(crate) fn newer(shape: Shape, set: [Checkpoint; 16]) -> usize
 {
     let counts = shape.counts;
     let mut sum = 0;
-    let mut j = 0;
-    while j < shape.n {
+    for j in 0..shape.n {
         let r = set[j];
         sum += counts[j] - r.0;
-        j += 1;
     }
     sum
 }

@@ -1,11 +1,9 @@
 -- Places: the machine at one, as the code reads it, and who is at one.
-use mathlib.Core.Path.{◌≡◌, refl}
+use mathlib.Core.Path.{◌≡◌}
 use mathlib.Core.Bool.{true, not}
-use mathlib.Core.List.{[], ◌∷◌}
-use Prim.Native.Nat.{ℕ, zero, suc, ◌<◌}
-use native.Mathlib.Omega.{arith}
+use mathlib.Core.List.{[]}
+use Prim.Native.Nat.{ℕ, ◌<◌}
 use borrow.Author.Tests.{ltb-true}
-use lib.ListN.{length, get_or}
 use lib.Dec.{ltb, eqb}
 use Rattle.lists.proofs.Tests.{and_both}
 use Rattle.machine.specs.Named.{is_participant}

@@ -28,7 +28,7 @@ start_question tables initiator purpose strands =
     then λ _. ask 17
     (have_room tables.shape.n (initiator.0 - 1) (begun tables initiator purpose).outgoing strands)
 
--- beside a refusal: all zero (and the initiator ended)
+-- where none was started: all zero (and the initiator ended)
 unfoldable pub no_session : Session
 no_session =
     record {

@@ -1,14 +1,14 @@
 #![tactic(auto)]
 // Document 01, "Session": the machines of one search, joined by strands. Values and definitions; the calls are in the crates
 // above.
-use book::{Answer, Process};
+use book::Process;
 use initiator::Initiator;
 use mail::Outgoing;
 use participant::Participant;
 
 // What a strand holds: nothing; a message to the participant that it answers by a report (a searching invitation, a poll), or
 // that ends it (a termination, the invitation of a restart); a report; or something that passes at neither end.
-#[derive(Clone, Copy)]
+#[derive(Clone, Copy, PartialEq, Eq)]
 pub enum Waiting {
     Nothing,
     Asking,
@@ -36,12 +36,4 @@ pub struct Session {
 pub struct Turned {
     pub session: Session,
     pub outgoing: Outgoing,
-}
-
-// The answer of `start` and `turn`: the session afterwards. A refused turn hands back the session that it was given; beside a
-// refused start all is zero (and the initiator ended).
-#[derive(Clone, Copy)]
-pub struct SessionAnswer {
-    pub answer: Answer,
-    pub session: Session,
 }

@@ -22,48 +22,40 @@ zero_row = refl
 pub zero_same : (row none : List Count) → none ≡ as_row (λ q. 0) → same row none ≡ same row (as_row (λ q. 0))
 zero_same row none e = ap (same row) e
 
-module _ (p : Participant) where
-  -- the tests that are left after each
-  abbrev pub left7 : Bool
-  left7 = same p.column (as_row (λ q. 0))
+-- a test that is put only where the ones before it passed
+pub past_yes : {before test v : Bool} → before ≡ true → v ≡ test → v ≡ (before && test)
+past_yes {before} {test} h is = is ∙ sym (and_rest before test h)
 
-  abbrev pub left6 : Bool
-  left6 = same p.row (as_row (λ q. 0)) && left7
+pub past_no : {before v : Bool} (test : Bool) → before ≡ false → v ≡ before → v ≡ (before && test)
+past_no {before} test h is = is ∙ h ∙ sym (and_first before test h)
 
-  abbrev pub left5 : Bool
-  left5 = eqb p.candidate.0 0 && left6
+regroup : (a b d e f g h i : Bool) → (((((((a && b) && d) && e) && f) && g) && h) && i) ≡ (a && (b && (d && (e && (f && (g && (h && i)))))))
+regroup true true true true true true true i = refl
+regroup true true true true true true false i = refl
+regroup true true true true true false h i = refl
+regroup true true true true false g h i = refl
+regroup true true true false f g h i = refl
+regroup true true false e f g h i = refl
+regroup true false d e f g h i = refl
+regroup false b d e f g h i = refl
 
-  abbrev pub left4 : Bool
-  left4 = is_before p.stage && left5
-
-  abbrev pub left3 : Bool
-  left3 = eqb p.purpose 0 && left4
-
-  abbrev pub left2 : Bool
-  left2 = eqb p.initiator.0 0 && left3
-
-  abbrev pub left1 : Bool
-  left1 = eqb p.me.0 0 && left2
-
-  pub absent_is : is_absent p ≡ (eqb p.n 0 && left1)
-  unfolding is_absent
-  absent_is = refl
-
--- a number that is zero leaves the rest to be asked, any other is the answer
-module _ {all : Bool} (n : ℕ) (rest : Bool) where
-  pub past_zero : all ≡ (eqb n 0 && rest) → n ≡ 0 → all ≡ rest
-  past_zero e h = e ∙ and_rest (eqb n 0) rest (eq-eqb n 0 h)
-
-  pub not_zero : all ≡ (eqb n 0 && rest) → (n ≡ 0 → ⊥) → false ≡ all
-  not_zero e h = sym (e ∙ and_first (eqb n 0) rest (ne_eqb n 0 h))
-
--- and so does a test
-module _ {all : Bool} (t rest : Bool) where
-  pub past_test : all ≡ (t && rest) → t ≡ true → all ≡ rest
-  past_test e h = e ∙ and_rest t rest h
-
-  pub no_test : all ≡ (t && rest) → t ≡ false → false ≡ all
-  no_test e h = sym (e ∙ and_first t rest h)
+-- the tests one after another
+module _
+    (p : Participant)
+    {v0 v1 v2 v3 v4 v5 : Bool}
+    (e0 : v0 ≡ (eqb p.n 0 && eqb p.me.0 0))
+    (e1 : v1 ≡ (v0 && eqb p.initiator.0 0))
+    (e2 : v2 ≡ (v1 && eqb p.purpose 0))
+    (e3 : v3 ≡ (v2 && is_before p.stage))
+    (e4 : v4 ≡ (v3 && eqb p.candidate.0 0))
+    (e5 : v5 ≡ (v4 && same p.row (as_row (λ q. 0))))
+  where
+    pub absent_is : (v5 && same p.column (as_row (λ q. 0))) ≡ is_absent p
+    unfolding is_absent
+    absent_is =
+        rw (e5, e4, e3, e2, e1, e0)
+        (regroup (eqb p.n 0) (eqb p.me.0 0) (eqb p.initiator.0 0) (eqb p.purpose 0) (is_before p.stage) (eqb p.candidate.0 0)
+        (same p.row (as_row (λ q. 0))) (same p.column (as_row (λ q. 0))))
 
 -- ---- with its strand
 

@@ -1,6 +1,8 @@
 -- What a strand holds: by the head that its bytes have, and by the questions that the message is put.
+use Rattle.std.specs.Result.{is_err}
+use Rattle.std.specs.Prelude.{Some, None, Result, Ok, Err}
 use mathlib.Core.Path.{◌≡◌, refl, sym, ap, ◌∙◌}
-use mathlib.Core.Bool.{Bool, true, false}
+use mathlib.Core.Bool.{Bool, true, false, true≢false}
 use mathlib.Core.List.{List}
 use Prim.Native.Nat.{ℕ, suc, ◌+◌, ◌-◌}
 use native.Mathlib.Numerals.{add-one}
@@ -9,16 +11,18 @@ use borrow.Author.Tests.{eq-eqb, ne_eqb}
 use lib.ListN.{length, take, drop, get_or}
 use lib.Dec.{eqb}
 use Rattle.varint.specs.Sequence.{Numbers}
-use Rattle.book.specs.InTurn.{◌then◌, ask}
+use Rattle.book.specs.declared.Question.{Question}
+use Rattle.book.specs.InTurn.{◌then◌, ask, answer_with}
+use Rattle.book.specs.Numbers.{by_number}
+use Rattle.book.proofs.Refusals.{is_refused, is_accepted}
 use Rattle.book.specs.Read.{numbers_from}
 use Rattle.lists.specs.Pick.{pick}
 use Rattle.matrix.specs.Entries.{all_lower}
 use Rattle.message.specs.declared.Head.{Head}
 use Rattle.message.specs.declared.Message.{Message}
-use Rattle.message.specs.declared.HeadRead.TheVariants.{Found}
 use Rattle.message.specs.Formed.{begin_formed, message_formed}
 use Rattle.message.specs.Parts.{HeadFound}
-use Rattle.message.proofs.Messages.{no_head}
+use Rattle.message.proofs.Messages.{formless, no_head}
 use Rattle.machine.specs.Sends.{is_termination}
 use Rattle.participant.specs.declared.Participant.{Participant}
 use Rattle.participant.specs.Step.{awaits}
@@ -40,6 +44,17 @@ ends_yes m h = rw (eq-eqb m.head.purpose 2 h)
 
 pub ends_if : (m : Message) {r : Bool} → (m.head.purpose ≡ 2 → ⊥) → r ≡ is_termination m → r ≡ ends_search m
 ends_if m h e = rw (ne_eqb m.head.purpose 2 h) e
+
+-- ---- a call that is asked only whether it refuses
+
+module _ {A : Type 0} (q : ℕ) (v : A) where
+  pub refuses_one : (r : Result A Question) → by_number r ≡ answer_with q v → is_err r ≡ true → q ≡ 0 → ⊥
+  refuses_one (Ok w) answered h = absurd (true≢false (sym h))
+  refuses_one (Err e) answered h = is_refused q v answered refl
+
+  pub refuses_none : (r : Result A Question) → by_number r ≡ answer_with q v → is_err r ≡ false → q ≡ 0
+  refuses_none (Ok w) answered h = is_accepted q v answered refl
+  refuses_none (Err e) answered h = absurd (true≢false h)
 
 -- ---- to a participant
 
@@ -137,12 +152,12 @@ module _ (n of : ℕ) (p : Participant) (k : ℕ) (s : List ℕ) where
     told_formless h =
         λ m.
         let no_down : Stray ≡ on_down =
-        down_stray n p s (λ z. absurd (omega (arith, z, down_formless n p s (no_head n p.me.0 p.initiator.0 s h)))) in
+        down_stray n p s (λ z. absurd (omega (arith, z, down_formless n p s (formless n p.me.0 p.initiator.0 s h)))) in
         let no_up : Stray ≡ held_up n m s =
-        up_stray n m s (λ z. absurd (omega (arith, z, not_formed n m s (no_head n m.me.0 m.me.0 s h)))) in
+        up_stray n m s (λ z. absurd (omega (arith, z, not_formed n m s None (no_head n m.me.0 m.me.0 s h) refl))) in
         all_stray from_it to_it on_down (held_up n m s) no_down no_up ∙ by_sender m
 
-    module _ (head : Head) (next : ℕ) (found : HeadFound n s (Found head next)) where
+    module _ (head : Head) (next : ℕ) (found : HeadFound n s (Some (head, next))) where
       sender : sender_in s ≡ head.sender.0
       sender = ap (λ (t : Numbers). get_or t.found 2 0) found.0
 

@@ -1,41 +1,15 @@
 // Document 01, question 13 of a session: what a strand holds.
 ghost use Rattle.std.specs.Prelude.{◌≡◌, true, ◌+◌, ◌-◌, ◌≤◌, ◌<◌, length};
 ghost use Rattle.strands.specs.Strands.{strand_start};
-ghost use Rattle.session.specs.Held.{ends_search, held_down, held_up, is_report, is_stray, waiting_bytes, held};
+ghost use Rattle.session.specs.Held.{ends_search, held_down, held_up, is_report, waiting_bytes, held};
 ghost use Rattle.session.specs.Fits.{strand_within};
 ghost use Rattle.session_check.specs.Parts.{length_fits, bytes_on, Told};
 
 use book::Process;
 use initiator::Initiator;
-use message::{HeadRead, Message};
+use message::Message;
 use participant::Participant;
 use session::{Session, Waiting};
-
-// Is it a report?
-pub(crate) fn is_report(w: Waiting) -> bool
-    ensures { result ≡ is_report w }
-{
-    match w {
-        Waiting::Nothing => false,
-        Waiting::Asking => false,
-        Waiting::Ending => false,
-        Waiting::Report => true,
-        Waiting::Stray => false,
-    }
-}
-
-// Is it something that passes nowhere?
-pub(crate) fn is_stray(w: Waiting) -> bool
-    ensures { result ≡ is_stray w }
-{
-    match w {
-        Waiting::Nothing => false,
-        Waiting::Asking => false,
-        Waiting::Ending => false,
-        Waiting::Report => false,
-        Waiting::Stray => true,
-    }
-}
 
 // Does a message to a participant end it?
 fn ends_search(message: Message) -> bool
@@ -53,10 +27,9 @@ fn held_down(n: usize, p: Participant, s: &[u8]) -> Waiting
     let me = p.me;
     let initiator = p.initiator;
     let read = message::read_message(s, n, me, initiator);
-    if p.message_question(read) != 0 {
+    let Ok(message) = p.message_question(read) else {
         return Waiting::Stray;
-    }
-    let message = read.message;
+    };
     if ends_search(message) {
         return Waiting::Ending;
     }
@@ -69,12 +42,10 @@ fn held_up(n: usize, machine: Initiator, s: &[u8]) -> Waiting
     ensures { result ≡ held_up n machine s.now }
 {
     let me = machine.me;
-    let read = message::read_message(s, n, me, me);
-    if !read.formed {
+    let Some(message) = message::read_message(s, n, me, me) else {
         return Waiting::Stray;
-    }
-    let message = read.message;
-    if machine.awaited_question(message) != 0 {
+    };
+    if machine.awaited_question(message).is_err() {
         return Waiting::Stray;
     }
     Waiting::Report
@@ -88,7 +59,7 @@ fn held_below(n: usize, initiator: Process, p: Participant, k: usize, s: &[u8]) 
     if s.len() == 0 {
         return Waiting::Nothing;
     }
-    let HeadRead::Found(head, _) = message::read_head(s, n) else {
+    let Some((head, _)) = message::read_head(s, n) else {
         return Waiting::Stray;
     };
     let sender = head.sender;
@@ -155,7 +126,7 @@ pub fn held_on(session: Session, n: usize, strands: &[u8], k: usize) -> Waiting
     let lengths = session.lengths;
     let waits = lengths[k];
     let w = below(n, initiator, participants[k], waits, strands, k);
-    if !is_report(w) {
+    if w != Waiting::Report {
         return w;
     }
     let machine = session.machine;

@@ -9,76 +9,42 @@ ghost use Rattle.book.specs.Accepted.{AcceptedRows};
 ghost use Rattle.book.specs.Bounds.{most_processes};
 ghost use Rattle.lists.specs.Over.{all_to};
 ghost use Rattle.strands.specs.Strands.{strand_start};
-ghost use Rattle.session.specs.Workers.{is_ended};
 ghost use Rattle.session.specs.Held.{is_report, is_stray};
-ghost use Rattle.session.specs.Fits.{session_named, session_purposes, is_absent, is_before, place_fits, session_fits};
+ghost use Rattle.session.specs.Fits.{session_named, session_purposes, is_absent, place_fits, session_fits};
 ghost use Rattle.session_check.specs.Parts.{all_named, all_purposes, initiator_on, machine_fits, length_fits, held_fits, PlaceTold};
 
-use book::{Counter, Process, TableRows};
+use book::{Checkpoint, Count, Counter, Process, TableRows};
 pub use held::held_on;
 use initiator::Initiator;
 use participant::{Participant, Stage};
 use session::{Session, Waiting};
 
-// Is it before the invitation?
-fn is_before(stage: Stage) -> bool
-    ensures { result ≡ is_before stage }
-{
-    match stage {
-        Stage::Before => true,
-        Stage::Searching => false,
-        Stage::Ended => false,
-    }
-}
-
 // Is the machine all zero, as at a place that is empty?
 fn is_absent(p: Participant) -> bool
     ensures { result ≡ is_absent p }
 {
-    let me = p.me;
-    let initiator = p.initiator;
-    let stage = p.stage;
-    let candidate = p.candidate;
-    let row = p.row;
-    let column = p.column;
-    let none = [book::Count(0); 16];
-    if p.n != 0 {
-        return false;
-    }
-    if me.0 != 0 {
-        return false;
-    }
-    if initiator.0 != 0 {
-        return false;
-    }
-    if p.purpose != 0 {
-        return false;
-    }
-    if !is_before(stage) {
-        return false;
-    }
-    if candidate.0 != 0 {
-        return false;
-    }
-    if !matrix::same(row, none) {
-        return false;
-    }
-    matrix::same(column, none)
+    let none = [Count(0); 16];
+    p.n == 0
+        && p.me == Process(0)
+        && p.initiator == Process(0)
+        && p.purpose == 0
+        && p.stage == Stage::Before
+        && p.candidate == Checkpoint(0)
+        && matrix::same(p.row, none)
+        && matrix::same(p.column, none)
 }
 
 // Are the processes named at each place that is not empty, and is each another process than the initiator that it names?
 fn all_named(n: usize, participants: [Participant; 16]) -> bool
     ensures { result ≡ all_named n participants }
 {
-    let mut k = 0;
-    while k < book::MOST_PROCESSES {
+    for k in 0..book::MOST_PROCESSES {
         let p = participants[k];
         let me = p.me;
         let its = p.initiator;
         if !is_absent(p) && !machine::participant_named(n, me, its) {
             return false;
         }
-        k += 1;
     }
     true
 }
@@ -87,13 +53,11 @@ fn all_named(n: usize, participants: [Participant; 16]) -> bool
 fn all_purposes(participants: [Participant; 16]) -> bool
     ensures { result ≡ all_purposes participants }
 {
-    let mut k = 0;
-    while k < book::MOST_PROCESSES {
+    for k in 0..book::MOST_PROCESSES {
         let p = participants[k];
         if !is_absent(p) && !book::is_purpose(p.purpose) {
             return false;
         }
-        k += 1;
     }
     true
 }
@@ -196,22 +160,11 @@ fn within(n: usize, initiator: usize, k: usize, waits: usize, room: usize) -> bo
     strands::strand_start(n, initiator, k) + waits <= room
 }
 
-// Has it ended?
-fn is_ended(stage: Stage) -> bool
-    ensures { result ≡ is_ended stage }
-{
-    match stage {
-        Stage::Before => false,
-        Stage::Searching => false,
-        Stage::Ended => true,
-    }
-}
-
 // Does what a strand holds fit who is awaited, whether the initiator has ended, and how far the participant is?
 fn held_fits(awaited: bool, ended: bool, stage: Stage, w: Waiting) -> bool
     ensures { result ≡ held_fits awaited ended stage w }
 {
-    let going = ended || !is_ended(stage);
+    let going = ended || stage != Stage::Ended;
     match w {
         Waiting::Nothing => !awaited && going,
         Waiting::Asking => awaited && going,
@@ -291,8 +244,7 @@ fn places_fit(
     let awaited = machine.awaited;
     let participants = session.participants;
     let lengths = session.lengths;
-    let mut k = 0;
-    while k < book::MOST_PROCESSES {
+    for k in 0..book::MOST_PROCESSES {
         let p = participants[k];
         let waits = lengths[k];
         let w = place_holds(
@@ -308,15 +260,14 @@ fn places_fit(
             strands,
             k,
         );
-        if held::is_stray(w) {
+        if w == Waiting::Stray {
             return false;
         }
-        if held::is_report(w)
-            && held::is_stray(held::above(shape.n, initiator, machine, waits, strands, k))
+        if w == Waiting::Report
+            && held::above(shape.n, initiator, machine, waits, strands, k) == Waiting::Stray
         {
             return false;
         }
-        k += 1;
     }
     true
 }

@@ -1,6 +1,7 @@
 -- What the steps make, as the definitions have it.
 use mathlib.Core.Path.{◌≡◌, ap, ◌∙◌}
-use mathlib.Core.Bool.{true, false}
+use Rattle.std.specs.Prelude.{Option, Some, None, IsSome}
+use mathlib.Core.Bool.{Bool, true, false}
 use mathlib.Core.List.{List, []}
 use Prim.Native.Nat.{ℕ, suc, ◌-◌, ◌≤◌}
 use native.Mathlib.Omega.{arith}
@@ -13,10 +14,11 @@ use Rattle.book.specs.declared.TableRows.{TableRows}
 use Rattle.book.specs.InTurn.{ask}
 use Rattle.book.proofs.Questions.{then_none, asked_yes}
 use Rattle.lists.specs.Over.{tab}
+use Rattle.lists.specs.Pick.{pick}
 use Rattle.matrix.specs.Matrix.{row}
 use Rattle.message.specs.declared.Message.{Message}
 use Rattle.message.specs.Formed.{message_formed}
-use Rattle.message.specs.Read.{message_read}
+use Rattle.message.proofs.Found.{found_some}
 use Rattle.mail.specs.declared.Outgoing.{Outgoing}
 use Rattle.mail.specs.Outgoing.{goes_to, no_lengths}
 use Rattle.machine.specs.Own.{own_of}
@@ -24,7 +26,7 @@ use Rattle.machine.specs.Sends.{other_head, nothing, only_to}
 use Rattle.participant.specs.declared.Participant.{Participant}
 use Rattle.participant.specs.declared.ParticipantStep.{ParticipantStep}
 use Rattle.participant.specs.Step as participant
-use Rattle.participant.specs.Calls.{no_participant}
+use Rattle.participant.specs.Calls.{no_participant, read_by as read_down}
 use Rattle.initiator.specs.declared.Initiator.{Initiator}
 use Rattle.initiator.specs.declared.InitiatorStep.{InitiatorStep}
 use Rattle.initiator.specs.Begin.{begin}
@@ -128,7 +130,7 @@ names_down rows k initiator p q e me its present there =
 
 pub down_is : (tables : Tables) (session : Session) (k : ℕ) (s : List ℕ) (p : Participant) (m : Message)
     (next : ParticipantStep) (after : Session) (o : Outgoing) → p ≡ participant_at session k → (participant_at session k).me.0 ≡ suc k
-    → m ≡ message_read tables.shape.n p.me.0 p.initiator.0 s
+    → m ≡ read_down tables.shape.n (participant_at session k) s
     → next ≡ participant.step (own_of tables (p.me.0 - 1)) p m
     → after ≡ delivered_on session k session.machine (set session.participants k next.state)
     → o ≡ on_strand k (initiator_of session) next.outgoing
@@ -137,10 +139,9 @@ unfolding deliver_down
 down_is tables session k s p m next after o e me f g h r =
     let q : Participant = participant_at session k in
     let mine : q.me.0 - 1 ≡ k = omega (arith, me) in
-    let read : Message = message_read tables.shape.n q.me.0 q.initiator.0 s in
-    let is_read : m ≡ read = f ∙ ap (λ (t : Participant). message_read tables.shape.n t.me.0 t.initiator.0 s) e in
+    let read : Message = read_down tables.shape.n q s in
     let at_its : next ≡ participant.step (own_of tables (q.me.0 - 1)) q read =
-    g ∙ (λ i. participant.step (own_of tables ((e i).me.0 - 1)) (e i) (is_read i)) in
+    g ∙ (λ i. participant.step (own_of tables ((e i).me.0 - 1)) (e i) (f i)) in
     let is_next : next ≡ participant.step (own_of tables k) q read =
     at_its ∙ ap (λ (j : ℕ). participant.step (own_of tables j) q read) mine in
     let is_after =
@@ -150,14 +151,26 @@ down_is tables session k s p m next after o e me f g h r =
 
 -- ---- a report is delivered to the initiator
 
+-- it is formed
+module _ (n : ℕ) (machine : Initiator) (s : List ℕ) where
+  abbrev formed : Bool
+  formed = message_formed n machine.me.0 machine.me.0 s
+
+  report_formed : message_question n machine s ≡ 0 → formed ≡ true
+  report_formed passes = asked_yes 13 formed (then_none (ask 14 formed) _ passes).0
+
+  pub report_there : {r : Option Message} → message_question n machine s ≡ 0 → r ≡ pick formed (Some (read_by n machine s)) None → IsSome r
+  report_there passes e = rw (e, report_formed passes)
+
+  pub report_read : {r : Option Message} {m : Message} → r ≡ pick formed (Some (read_by n machine s)) None → r ≡ Some m → m ≡ read_by n machine s
+  report_read e is = (found_some formed _ e is).1
+
 -- its sender is a process that there is
 pub report_sender : (n : ℕ) (machine : Initiator) (s : List ℕ) (m : Message) → n ≤ 16 → message_question n machine s ≡ 0
     → m ≡ read_by n machine s → (1 ≤ m.head.sender.0) × (m.head.sender.0 ≤ 16)
 report_sender n machine s m most passes e =
     let me : ℕ = machine.me.0 in
-    let formed = message_formed n me me s in
-    let first = (then_none (ask 14 formed) _ passes).0 in
-    let there = sender_there n me me s m (asked_yes 13 formed first) e in
+    let there = sender_there n me me s m (report_formed n machine s passes) e in
     (there.0, omega (arith, there))
 
 pub up_is : (tables : Tables) (session : Session) (k : ℕ) (s : List ℕ) (m : Message) (next : InitiatorStep)

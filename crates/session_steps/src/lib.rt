@@ -1,11 +1,12 @@
 #![tactic(auto)]
 // Document 01, "Session": beginning a search, and delivering a message. Inner functions, for the calls of a session, which have
 // put the questions. Processes count from 0 here, but for those that are named.
-ghost use Rattle.std.specs.Prelude.{◌≡◌, [], suc, ◌-◌, ◌≤◌, ◌<◌};
+ghost use Rattle.std.specs.Prelude.{◌≡◌, List, [], ℕ, suc, ◌-◌, ◌≤◌, ◌<◌};
 ghost use Rattle.book.specs.Lent.{lent};
 ghost use Rattle.lists.specs.Over.{tab};
 ghost use Rattle.machine.specs.Named.{tally_limit};
 ghost use Rattle.book.specs.Accepted.{AcceptedRows, IsProcess};
+ghost use Rattle.participant.specs.Calls.{read_by};
 ghost use Rattle.initiator.specs.Calls as calls;
 ghost use Rattle.session.specs.Workers.{participant_at};
 ghost use Rattle.session.specs.Calls.{no_session};
@@ -14,11 +15,11 @@ ghost use Rattle.session.specs.Steps.{place_at_start, begun, delivered_on, on_st
 use book::{Counter, Process, Shape, TableRows};
 use initiator::Initiator;
 use mail::Outgoing;
-use message::Head;
+use message::{Head, Message};
 use participant::Participant;
 use session::{Session, Turned};
 
-// Beside a refusal: all zero.
+// What stands for a session that did not start: all zero.
 pub fn no_session() -> Session
     ensures { result ≡ no_session }
 {
@@ -56,10 +57,8 @@ fn first_places(shape: Shape, initiator: Process, purpose: u64) -> [Participant;
 {
     let nobody = participant::no_participant();
     let mut places = [nobody; 16];
-    let mut k = 0;
-    while k < book::MOST_PROCESSES {
+    for k in 0..book::MOST_PROCESSES {
         places[k] = first_place(shape, initiator, purpose, k);
-        k += 1;
     }
     places
 }
@@ -139,24 +138,19 @@ pub fn deliver_down(
     sent: &[Counter],
     received: &[Counter],
     k: usize,
-    s: &[u8],
+    message: Message,
 ) -> Turned
     requires accepted_rows { AcceptedRows rows sent.now received.now × IsProcess rows (suc k) }
     requires k_value { (participant_at session k).me.0 ≡ suc k }
     requires k_value_2 { (participant_at session k).initiator.0 ≡ session.initiator.0 }
     requires le_initiator { (1 ≤ session.initiator.0) × (session.initiator.0 ≤ 16) }
     requires k_bound { (k < 16) × (session.delivered < tally_limit) }
-    ensures { result ≡ deliver_down (lent rows.shape sent.now received.now) session k s.now }
+    ensures { (s : List ℕ) → message ≡ read_by rows.shape.n (participant_at session k) s → result ≡ deliver_down (lent rows.shape sent.now received.now) session k s }
 {
-    let shape = rows.shape;
     let mut participants = session.participants;
     let p = participants[k];
-    let me = p.me;
-    let its = p.initiator;
     let initiator = session.initiator;
     let machine = session.machine;
-    let read = message::read_message(s, shape.n, me, its);
-    let message = read.message;
     let next = p.step(rows, sent, received, message);
     let outgoing = next.outgoing;
     let state = next.state;
@@ -187,8 +181,7 @@ pub fn deliver_up(
     let machine = session.machine;
     let me = machine.me;
     let participants = session.participants;
-    let read = message::read_message(s, shape.n, me, me);
-    let message = read.message;
+    let message = message::read_message(s, shape.n, me, me).unwrap();
     let next = machine.step(rows, sent, received, message);
     let state = next.state;
     let outgoing = next.outgoing;

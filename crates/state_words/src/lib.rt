@@ -96,10 +96,8 @@ fn put_head(head: &[u64], words: &mut [u64], at: usize)
     requires { at + length head.now ≤ length words.old }
     ensures { words.new ≡ sets words.old at head.now }
 {
-    let mut i = 0;
-    while i < head.len() {
+    for i in 0..head.len() {
         words[at + i] = head[i];
-        i += 1;
     }
 }
 
@@ -133,10 +131,8 @@ fn flags_at(words: &[u64], at: usize) -> [bool; 16]
     ensures { result ≡ flags_at words.now at }
 {
     let mut flags = [false; 16];
-    let mut i = 0;
-    while i < book::MOST_PROCESSES {
+    for i in 0..book::MOST_PROCESSES {
         flags[i] = words[at + i] != 0;
-        i += 1;
     }
     flags
 }
@@ -146,10 +142,8 @@ fn put_flags(flags: [bool; 16], words: &mut [u64], at: usize)
     requires { at + most_processes ≤ length words.old }
     ensures { words.new ≡ sets words.old at (flag_words flags) }
 {
-    let mut i = 0;
-    while i < book::MOST_PROCESSES {
+    for i in 0..book::MOST_PROCESSES {
         words[at + i] = flag_word(flags[i]);
-        i += 1;
     }
 }
 

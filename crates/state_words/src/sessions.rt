@@ -22,13 +22,11 @@ fn places_decode(words: &[u64]) -> bool
     requires { length words.now ≡ session_length }
     ensures { result ≡ places_decode words.now }
 {
-    let mut k = 0;
-    while k < book::MOST_PROCESSES {
+    for k in 0..book::MOST_PROCESSES {
         let at = place_start(k);
         if !crate::participant_decodes(words, at) {
             return false;
         }
-        k += 1;
     }
     true
 }
@@ -40,11 +38,9 @@ fn places_at(words: &[u64]) -> [Participant; 16]
 {
     let none = participant::no_participant();
     let mut places = [none; 16];
-    let mut k = 0;
-    while k < book::MOST_PROCESSES {
+    for k in 0..book::MOST_PROCESSES {
         let at = place_start(k);
         places[k] = crate::participant_at(words::number(words[at]), words, at);
-        k += 1;
     }
     places
 }
@@ -54,11 +50,9 @@ fn put_places(places: [Participant; 16], words: &mut [u64])
     requires { length words.old ≡ session_length }
     ensures { words.new ≡ sets words.old (place_start 0) (place_words places most_processes) }
 {
-    let mut k = 0;
-    while k < book::MOST_PROCESSES {
+    for k in 0..book::MOST_PROCESSES {
         let at = place_start(k);
         crate::put_participant(places[k], words, at);
-        k += 1;
     }
 }
 

@@ -54,12 +54,10 @@ pub fn have_room(outgoing: Outgoing, n: usize, initiator: usize, strands: &[u8])
     requires { (1 ≤ n) × (n ≤ 16) }
     ensures { result ≡ have_room n initiator outgoing strands.now }
 {
-    let mut k = 0;
-    while k < book::MOST_PROCESSES {
+    for k in 0..book::MOST_PROCESSES {
         if !has_room(outgoing, n, initiator, k, strands.len()) {
             return false;
         }
-        k += 1;
     }
     true
 }
@@ -96,15 +94,13 @@ pub fn post(
 {
     let to = outgoing.to;
     let mut next = [0usize; 16];
-    let mut k = 0;
-    while k < book::MOST_PROCESSES {
+    for k in 0..book::MOST_PROCESSES {
         let size = post_to(outgoing, n, initiator, k, strands);
         if to[k] {
             next[k] = size;
         } else {
             next[k] = lengths[k];
         }
-        k += 1;
     }
     next
 }

@@ -9,35 +9,34 @@ ghost use Rattle.book.specs.Tables.{others, checkpoints_of, processes_of};
 ghost use Rattle.book.specs.Check.{counts_question, rows_question, contents_question, tables_question};
 ghost use Rattle.book.specs.Layout.{joined};
 ghost use Rattle.book.specs.InTurn.{answer_to};
+ghost use Rattle.book.specs.Numbers.{by_number};
 ghost use Rattle.book.specs.Questions.{length_question, all_zero, unused_of, unused_from, unused_zero};
 ghost use Rattle.book.specs.Along.{counters_question, process_question};
 ghost use Rattle.book.specs.Fits.{RowsFit, BookFits};
 ghost use Rattle.book.specs.Before.{counters_before};
 ghost use Rattle.tables.specs.Row.{RowFits};
 
-use book::{Answer, Counter, Shape};
+use book::{Counter, Question, Shape};
 
-// All of question 5: the first count that fails it, 0 for none.
-fn counts_question(shape: Shape) -> u32
+// All of question 5.
+fn counts_question(shape: Shape) -> Result<(), Question>
     requires { shape.n ≤ 16 }
-    ensures { result ≡ counts_question 0 (take shape.n shape.counts) }
+    ensures { by_number result ≡ answer_to (counts_question 0 (take shape.n shape.counts)) }
 {
     let n = shape.n;
     let counts = shape.counts;
     let mut sum = 0;
-    let mut j = 0;
-    while j < n {
+    for j in 0..n {
         let count = counts[j];
         if count < 1 {
-            return 5;
+            return Err(Question::Checkpoints);
         }
         if book::MOST_CHECKPOINTS - sum < count {
-            return 5;
+            return Err(Question::Checkpoints);
         }
         sum += count;
-        j += 1;
     }
-    0
+    Ok(())
 }
 
 // Questions 6 to 8 of the row of process j that starts at an entry of one table, given the row before it: an oldest row has none
@@ -49,22 +48,17 @@ fn row_question(
     j: usize,
     oldest: bool,
     zeros: bool,
-) -> u32
+) -> Result<(), Question>
     requires { RowFits oldest n j start table.now }
-    ensures { result ≡ counters_question mark zeros (counters_before oldest n j start table.now) (others n j (drop start table.now)) }
+    ensures { by_number result ≡ answer_to (counters_question mark zeros (counters_before oldest n j start table.now) (others n j (drop start table.now))) }
 {
-    let mut k = 0;
-    while k < n - 1 {
+    for k in 0..n - 1 {
         let at = start + book::partner_column(j, k);
         let v = book::wide(table[at]);
         let before = book::entry_before(table, at, oldest);
-        let question = book::counter_question(book::MARK, zeros, before, v);
-        if question != 0 {
-            return question;
-        }
-        k += 1;
+        book::counter_question(book::MARK, zeros, before, v)?;
     }
-    0
+    Ok(())
 }
 
 // Questions 6 to 8 of the checkpoints of process j, whose first row is `first`.
@@ -75,48 +69,35 @@ fn process_question(
     n: usize,
     j: usize,
     count: usize,
-) -> u32
+) -> Result<(), Question>
     requires rows_fit { RowsFit n j first count sent.now }
     requires rows_fit_2 { RowsFit n j first count received.now }
-    ensures { result ≡ process_question mark n count (joined (checkpoints_of n j count (drop (first * 16) sent.now) (drop (first * 16) received.now))) }
+    ensures { by_number result ≡ answer_to (process_question mark n count (joined (checkpoints_of n j count (drop (first * 16) sent.now) (drop (first * 16) received.now)))) }
 {
-    let mut r = 0;
-    while r < count {
+    for r in 0..count {
         let start = (first + r) * book::ROW_WIDTH;
         let oldest = r == 0;
-        let in_sent = row_question(sent, start, n, j, oldest, book::sent_zeros(oldest));
-        if in_sent != 0 {
-            return in_sent;
-        }
-        let in_received = row_question(received, start, n, j, oldest, book::received_zeros(oldest));
-        if in_received != 0 {
-            return in_received;
-        }
-        r += 1;
+        row_question(sent, start, n, j, oldest, book::sent_zeros(oldest))?;
+        row_question(received, start, n, j, oldest, book::received_zeros(oldest))?;
     }
-    0
+    Ok(())
 }
 
 // Questions 6 to 8 in book order. The first row of each process is kept as we go.
-fn rows_question(shape: Shape, sent: &[Counter], received: &[Counter]) -> u32
+fn rows_question(shape: Shape, sent: &[Counter], received: &[Counter]) -> Result<(), Question>
     requires book_fits { BookFits shape.n shape.counts sent.now }
     requires book_fits_2 { BookFits shape.n shape.counts received.now }
-    ensures { result ≡ rows_question mark shape.n (processes_of shape.n 0 (take shape.n shape.counts) sent.now received.now) }
+    ensures { by_number result ≡ answer_to (rows_question mark shape.n (processes_of shape.n 0 (take shape.n shape.counts) sent.now received.now)) }
 {
     let n = shape.n;
     let counts = shape.counts;
     let mut first = 0;
-    let mut j = 0;
-    while j < n {
+    for j in 0..n {
         let count = counts[j];
-        let question = process_question(sent, received, first, n, j, count);
-        if question != 0 {
-            return question;
-        }
+        process_question(sent, received, first, n, j, count)?;
         first += count;
-        j += 1;
     }
-    0
+    Ok(())
 }
 
 // Still clear after one more entry?
@@ -135,10 +116,8 @@ fn all_zero(table: &[Counter], from: usize, to: usize) -> bool
     ensures { result ≡ all_zero (drop from (take to table.now)) }
 {
     let mut clear = true;
-    let mut i = from;
-    while i < to {
+    for i in from..to {
         clear = still_clear(clear, table[i]);
-        i += 1;
     }
     clear
 }
@@ -149,12 +128,10 @@ fn absent_zero(shape: Shape) -> bool
     ensures { result ≡ all_zero (drop shape.n shape.counts) }
 {
     let counts = shape.counts;
-    let mut j = shape.n;
-    while j < book::MOST_PROCESSES {
+    for j in shape.n..book::MOST_PROCESSES {
         if counts[j] != 0 {
             return false;
         }
-        j += 1;
     }
     true
 }
@@ -164,8 +141,7 @@ fn process_unused_zero(table: &[Counter], first: usize, n: usize, j: usize, coun
     requires { RowsFit n j first count table.now }
     ensures { result ≡ all_zero (unused_of n j count (drop (first * 16) table.now)) }
 {
-    let mut r = 0;
-    while r < count {
+    for r in 0..count {
         let start = (first + r) * book::ROW_WIDTH;
         let own = start + j;
         if table[own] != 0 {
@@ -175,7 +151,6 @@ fn process_unused_zero(table: &[Counter], first: usize, n: usize, j: usize, coun
         if !is_zero {
             return false;
         }
-        r += 1;
     }
     true
 }
@@ -188,15 +163,13 @@ fn unused_zero(shape: Shape, table: &[Counter]) -> bool
     let n = shape.n;
     let counts = shape.counts;
     let mut first = 0;
-    let mut j = 0;
-    while j < n {
+    for j in 0..n {
         let count = counts[j];
         let is_zero = process_unused_zero(table, first, n, j, count);
         if !is_zero {
             return false;
         }
         first += count;
-        j += 1;
     }
     all_zero(table, first * book::ROW_WIDTH, book::ENTRIES)
 }
@@ -216,67 +189,51 @@ fn everything_unused_zero(shape: Shape, sent: &[Counter], received: &[Counter]) 
     unused_zero(shape, received)
 }
 
-// Question 2, 0 where it passes.
-pub fn length_question(sent: &[Counter], received: &[Counter]) -> u32
-    ensures { result ≡ length_question sent.now received.now }
+// Question 2.
+pub fn length_question(sent: &[Counter], received: &[Counter]) -> Result<(), Question>
+    ensures { by_number result ≡ answer_to (length_question sent.now received.now) }
 {
     if sent.len() != book::ENTRIES {
-        return 2;
+        return Err(Question::TableEntries);
     }
     if received.len() != book::ENTRIES {
-        return 2;
+        return Err(Question::TableEntries);
     }
-    0
+    Ok(())
 }
 
-// The first of the questions after 2 that tables of that length fail, 0 for none.
-pub fn contents_question(shape: Shape, sent: &[Counter], received: &[Counter]) -> u32
+// The questions after 2, of tables of that length.
+pub fn contents_question(
+    shape: Shape,
+    sent: &[Counter],
+    received: &[Counter],
+) -> Result<(), Question>
     requires { (length sent.now ≡ 4096) × (length received.now ≡ 4096) }
-    ensures { result ≡ contents_question (lent shape sent.now received.now) }
+    ensures { by_number result ≡ answer_to (contents_question (lent shape sent.now received.now)) }
 {
     let n = shape.n;
     if n < 1 {
-        return 4;
+        return Err(Question::Processes);
     }
     if book::MOST_PROCESSES < n {
-        return 4;
+        return Err(Question::Processes);
     }
-    let of_counts = counts_question(shape);
-    if of_counts != 0 {
-        return of_counts;
-    }
+    counts_question(shape)?;
     if quick::sound(shape, sent, received) {
-        return 0;
+        return Ok(());
     }
-    let of_rows = rows_question(shape, sent, received);
-    if of_rows != 0 {
-        return of_rows;
-    }
+    rows_question(shape, sent, received)?;
     let is_zero = everything_unused_zero(shape, sent, received);
     if !is_zero {
-        return 9;
+        return Err(Question::Unused);
     }
-    0
-}
-
-// The first question that the tables fail, 0 for none.
-pub fn question(shape: Shape, sent: &[Counter], received: &[Counter]) -> u32
-    ensures { result ≡ tables_question (lent shape sent.now received.now) }
-{
-    let of_lengths = length_question(sent, received);
-    if of_lengths != 0 {
-        return of_lengths;
-    }
-    contents_question(shape, sent, received)
+    Ok(())
 }
 
 // Do lent tables pass?
-pub fn check(shape: Shape, sent: &[Counter], received: &[Counter]) -> Answer
-    ensures { result ≡ answer_to (tables_question (lent shape sent.now received.now)) }
+pub fn check(shape: Shape, sent: &[Counter], received: &[Counter]) -> Result<(), Question>
+    ensures { by_number result ≡ answer_to (tables_question (lent shape sent.now received.now)) }
 {
-    let question = question(shape, sent, received);
-    if question != 0 {
-        return Answer::Refused(question);
-    }
-    Answer::Accepted
+    length_question(sent, received)?;
+    contents_question(shape, sent, received)
 }

@@ -27,10 +27,8 @@ fn none_mark(table: &[Counter], from: usize, to: usize) -> bool
     ensures { result ≡ true → Between from to (Known table.now) }
 {
     let mut known = true;
-    let mut i = from;
-    while i < to {
+    for i in from..to {
         known = still_known(known, table[i]);
-        i += 1;
     }
     known
 }
@@ -51,11 +49,9 @@ fn all_rising(table: &[Counter], from: usize, to: usize) -> bool
     ensures { result ≡ true → Between from to (Rising table.now) }
 {
     let mut rising = true;
-    let mut i = from;
-    while i < to {
+    for i in from..to {
         let row_before = i - book::ROW_WIDTH;
         rising = still_rising(rising, table[row_before], table[i]);
-        i += 1;
     }
     rising
 }
@@ -114,15 +110,13 @@ fn table_sound(shape: Shape, table: &[Counter], zeros: bool) -> bool
     let n = shape.n;
     let counts = shape.counts;
     let mut first = 0;
-    let mut j = 0;
-    while j < n {
+    for j in 0..n {
         let count = counts[j];
         let is_sound = process_sound(table, first, n, j, count, zeros);
         if !is_sound {
             return false;
         }
         first += count;
-        j += 1;
     }
     let end = first * book::ROW_WIDTH;
     crate::all_zero(table, end, book::ENTRIES)

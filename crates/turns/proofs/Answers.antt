@@ -1,13 +1,16 @@
 -- Questions put in turn: which of them answers, and what a call of a session hands back then.
-use mathlib.Core.Path.{◌≡◌, refl, sym, ap, subst, ◌∙◌}
+use mathlib.Core.Path.{◌≡◌, refl, sym, subst, ◌∙◌}
 use mathlib.Core.Bool.{Bool, true, false}
 use mathlib.Core.List.{List}
-use Prim.Native.Nat.{ℕ, zero, suc}
+use Prim.Native.Nat.{ℕ, zero, suc, ◌≤◌}
 use native.Mathlib.Omega.{arith}
-use Rattle.book.specs.declared.Answer.{Answer}
-use Rattle.book.specs.declared.Answer.TheVariants.{Accepted}
-use Rattle.book.specs.InTurn.{◌then◌, ask, answer_to, unless_refused}
-use Rattle.book.proofs.Questions.{then_passed, then_refused, ask_yes, ask_no, answer_passed, kept_passed, kept_refused}
+use Rattle.std.specs.Prelude.{Result, Ok, Err}
+use Rattle.book.specs.declared.Question.{Question}
+use Rattle.book.specs.declared.Question.TheVariants.{Room}
+use Rattle.book.specs.InTurn.{◌then◌, ask, answer_with, unless_refused}
+use Rattle.book.specs.Numbers.{number, by_number}
+use Rattle.book.proofs.Questions.{then_passed, then_refused, ask_yes, ask_no, kept_passed, kept_refused}
+use Rattle.book.proofs.Refusals.{number_positive, refuses, accepts}
 use Rattle.strands.specs.Strands.{lengths_posted}
 use Rattle.session.specs.declared.Session.{Session}
 use Rattle.session.specs.declared.Turned.{Turned}
@@ -62,44 +65,38 @@ posted_is turned lengths e =
       delivered = turned.session.delivered;
     }
 
--- by the question: the answer, the session before or after, and the strands
-abbrev pub Handed : ℕ → Session → Session → List ℕ → List ℕ → Answer → Session → List ℕ → Type 0
-Handed question before after strands written answer session bytes =
-    (answer ≡ answer_to question)
-    × ((session ≡ unless_refused question before after) × (bytes ≡ unless_refused question strands written))
+pub no_pass : (e : Question) (q : ℕ) → q ≡ number e → q ≡ 0 → ⊥
+no_pass e q is z = let h : 1 ≤ number e = number_positive e in absurd (omega arith)
 
-module _ (before after : Session) (strands written : List ℕ) (answer : Answer) (session : Session) where
-  pub handed_refused : (question found : ℕ) → question ≡ found → (found ≡ 0 → ⊥) → (answer ≡ answer_to found) × (session ≡ before)
-      → Handed question before after strands written answer session strands
-  handed_refused question found e h told =
-      let fails : (question ≡ 0 → ⊥) = λ z. h (sym e ∙ z) in (
-        told.0 ∙ ap (λ (q : ℕ). answer_to q) (sym e),
-        (
-          told.1 ∙ sym (kept_refused question before after fails),
-          sym (kept_refused question strands written fails),
-        ),
-      )
+-- a refusal leaves what was there
+pub kept : {A : Type 0} (e : Question) (q : ℕ) (before now : A) → q ≡ number e → before ≡ unless_refused q before now
+kept e q before now is = sym (kept_refused q before now (no_pass e q is))
 
-  pub handed_by : (question same : ℕ) (bytes : List ℕ) → question ≡ same
-      → Handed same before after strands written answer session bytes
-      → Handed question before after strands written answer session bytes
-  handed_by question same bytes e handed =
-      subst (λ (q : ℕ). Handed q before after strands written answer session bytes) (sym e) handed
+-- what stands beside a refusal is no matter
+pub answered : {A : Type 0} (q : ℕ) (before after : A) → answer_with q after ≡ answer_with q (unless_refused q before after)
+unfolding answer_with
+answered zero before after = refl
+answered (suc q) before after = refl
+
+-- by the question: the answer, and the strands
+abbrev pub Handed : ℕ → Session → List ℕ → List ℕ → Result Session Question → List ℕ → Type 0
+Handed question after strands written answer bytes =
+    (by_number answer ≡ answer_with question after) × (bytes ≡ unless_refused question strands written)
+
+pub handed_by : (question same : ℕ) (after : Session) (strands written : List ℕ) (answer : Result Session Question) (bytes : List ℕ)
+    → question ≡ same → Handed same after strands written answer bytes → Handed question after strands written answer bytes
+handed_by question same after strands written answer bytes e handed =
+    subst (λ (q : ℕ). Handed q after strands written answer bytes) (sym e) handed
 
 -- question 17, asked last
-module _ (before after : Session) (strands written : List ℕ) (room : Bool) where
-  pub no_room : (answer : Answer) (session : Session) → room ≡ false → (answer ≡ answer_to 17) × (session ≡ before)
-      → Handed (ask 17 room) before after strands written answer session strands
-  no_room answer session h told =
-      handed_refused before after strands written answer session (ask 17 room) 17 (ask_no 17 room h) (λ z. absurd (omega arith)) told
+module _ (after : Session) (strands written : List ℕ) (room : Bool) where
+  pub no_room : room ≡ false → Handed (ask 17 room) after strands written (Err Room) strands
+  no_room h =
+      let fails : ask 17 room ≡ 17 = ask_no 17 room h in
+      (refuses Room after fails, kept Room (ask 17 room) strands written fails)
 
   pub with_room : (session : Session) (bytes : List ℕ) → room ≡ true → session ≡ after → bytes ≡ written
-      → Handed (ask 17 room) before after strands written Accepted session bytes
+      → Handed (ask 17 room) after strands written (Ok session) bytes
   with_room session bytes h e f =
-      let passes : ask 17 room ≡ 0 = ask_yes 17 room h in (
-        sym (answer_passed (ask 17 room) passes),
-        (
-          e ∙ sym (kept_passed (ask 17 room) before after passes),
-          f ∙ sym (kept_passed (ask 17 room) strands written passes),
-        ),
-      )
+      let passes : ask 17 room ≡ 0 = ask_yes 17 room h in
+      (accepts passes e, f ∙ sym (kept_passed (ask 17 room) strands written passes))

@@ -2,6 +2,8 @@
 use mathlib.Core.Path.{◌≡◌, refl, sym, ap, ◌∙◌}
 use mathlib.Core.Bool.{Bool, true, false, ◌&&◌, true≢false}
 use mathlib.Core.List.{List}
+use mathlib.Core.Logic.{◌⊎◌, inl, inr}
+use Rattle.std.specs.Prelude.{Option, Some, None, IsSome}
 use Prim.Native.Nat.{ℕ, suc, ◌+◌, ◌-◌, ◌≤◌, ◌<◌}
 use native.Mathlib.Omega.{arith}
 use borrow.Author.Tests.{eqb-true, ne_eqb, ltb-true, leb-true}
@@ -9,6 +11,8 @@ use lib.ListN.{length, take, drop}
 use lib.Dec.{eqb, ltb, leb}
 use Rattle.book.specs.Lent.{Tables, lent}
 use Rattle.book.specs.declared.TableRows.{TableRows}
+use Rattle.book.specs.InTurn.{ask}
+use Rattle.book.proofs.Questions.{then_none, asked_yes}
 use Rattle.lists.proofs.Tests.{and_both}
 use Rattle.lists.specs.Over.{all_to}
 use Rattle.lists.proofs.Over.{all_in}
@@ -16,6 +20,10 @@ use Rattle.line_theory.proofs.Accepted.{accepted_size}
 use Rattle.lists.specs.Pick.{pick}
 use Rattle.machine.specs.Own.{own_of}
 use Rattle.machine.specs.Named.{is_participant, tally_limit}
+use Rattle.message.specs.declared.Message.{Message}
+use Rattle.message.specs.Formed.{message_formed}
+use Rattle.message.proofs.Found.{found_some}
+use Rattle.participant.specs.declared.Participant.{Participant}
 use Rattle.participant.specs.Calls as participant
 use Rattle.initiator.specs.Fits as initiator
 use Rattle.initiator.specs.Calls.{message_question}
@@ -27,7 +35,7 @@ use Rattle.session.specs.declared.Turned.{Turned}
 use Rattle.session.specs.declared.Waiting.{Waiting}
 use Rattle.session.specs.declared.Waiting.TheVariants.{Nothing, Asking, Ending, Report, Stray}
 use Rattle.session.specs.Workers.{initiator_of, participant_at}
-use Rattle.session.specs.Held.{sender_in, ends_search, held_down, held_up, waiting_bytes, held, is_report}
+use Rattle.session.specs.Held.{sender_in, ends_search, held_down, held_up, waiting_bytes, held, by_waiting, is_report}
 use Rattle.session.specs.Fits.{initiator_fits, participant_fits, strand_within, strand_fits, is_absent, place_fits, session_fits}
 use Rattle.session.specs.Steps.{deliver, deliver_down, deliver_up}
 use Rattle.book.specs.Accepted.{AcceptedRows}
@@ -174,9 +182,60 @@ module _ (n : ℕ) (session : Session) (k : ℕ) (s : List ℕ) where
       only false false true asked ends false e = absurd (not_report Stray refl e)
       only false false false asked ends passes e = absurd (not_report Stray refl e)
 
+-- ---- what goes to the participant passes its questions
+
+abbrev goes_down : Waiting → Bool
+goes_down w = by_waiting false true true false false w
+
+module _ (n : ℕ) (session : Session) (k : ℕ) (s : List ℕ) where
+  abbrev its : Participant
+  its = participant_at session k
+
+  pub down_passes : {w : Waiting} → w ≡ held n session k s → (w ≡ Asking) ⊎ (w ≡ Ending) → participant.message_question n its s ≡ 0
+  unfolding held held_down held_up
+  down_passes e is =
+      eqb-true (participant.message_question n its s) 0
+      (only (eqb (length s) 0) (eqb (sender_in s) session.initiator.0) (eqb (sender_in s) (suc k))
+      (eqb (participant.message_question n its s) 0)
+      (ends_search (participant.read_by n its s))
+      (eqb (message_question n session.machine s) 0) (ap goes_down (sym e) ∙ is_down is))
+    where
+      is_down : {w : Waiting} → (w ≡ Asking) ⊎ (w ≡ Ending) → goes_down w ≡ true
+      is_down (inl asks) = ap goes_down asks
+      is_down (inr ends) = ap goes_down ends
+
+      only : (none down up asked ends passes : Bool)
+          → goes_down (pick none Nothing (pick down (pick asked (pick ends Ending Asking) Stray) (pick up (pick passes Report Stray) Stray))) ≡ true
+          → asked ≡ true
+      only true down up asked ends passes e = absurd (true≢false (sym e))
+      only false true up true ends passes e = refl
+      only false true up false ends passes e = absurd (true≢false (sym e))
+      only false false true asked ends true e = absurd (true≢false (sym e))
+      only false false true asked ends false e = absurd (true≢false (sym e))
+      only false false false asked ends passes e = absurd (true≢false (sym e))
+
+  abbrev formed : Participant → Bool
+  formed t = message_formed n t.me.0 t.initiator.0 s
+
+  -- as the participant at that place reads it
+  module _ (q : Participant) (at : q ≡ its) {r : Option Message} (e : r ≡ pick (formed q) (Some (participant.read_by n q s)) None) where
+    its_read : r ≡ pick (formed its) (Some (participant.read_by n its s)) None
+    its_read = e ∙ ap (λ (t : Participant). pick (formed t) (Some (participant.read_by n t s)) None) at
+
+    pub down_there : participant.message_question n its s ≡ 0 → IsSome r
+    down_there passes = rw (its_read, asked_yes 13 (formed its) (then_none (ask 14 (formed its)) _ passes).0)
+
+    pub down_read : {m : Message} → r ≡ Some m → m ≡ participant.read_by n its s
+    down_read is = (found_some (formed its) _ its_read is).1
+
 -- ---- what is handed over
 
 module _ (tables : Tables) (session : Session) (k : ℕ) where
+  pub handed_down : (s : List ℕ) {w : Waiting} {turned : Turned} → (w ≡ Asking) ⊎ (w ≡ Ending)
+      → turned ≡ deliver_down tables session k s → turned ≡ deliver tables session k s w
+  handed_down s (inl is) e = e ∙ ap (λ (w : Waiting). deliver tables session k s w) (sym is)
+  handed_down s (inr is) e = e ∙ ap (λ (w : Waiting). deliver tables session k s w) (sym is)
+
   -- the part of the buffer that is handed over is the strand
   pub handed_over : (s t : List ℕ) (w : Waiting) (turned : Turned) → s ≡ t → w ≡ held tables.shape.n session k t
       → turned ≡ deliver tables session k s w → turned ≡ deliver tables session k t (held tables.shape.n session k t)

@@ -3,9 +3,11 @@ use mathlib.Core.Path.{◌≡◌, sym, ap, subst, ◌∙◌}
 use mathlib.Core.List.{List}
 use Prim.Native.Nat.{ℕ, ◌-◌, ◌≤◌}
 use Rattle.book.specs.Lent.{Tables}
-use Rattle.book.specs.declared.Answer.{Answer}
+use Rattle.std.specs.Prelude.{Result}
+use Rattle.book.specs.declared.Question.{Question}
 use Rattle.book.specs.declared.Process.{Process}
-use Rattle.book.specs.InTurn.{◌then◌, ask, answer_to}
+use Rattle.book.specs.InTurn.{◌then◌, ask, answer_with}
+use Rattle.book.specs.Numbers.{number, by_number}
 use Rattle.book.specs.Check.{tables_question}
 use mathlib.Core.Bool.{true}
 use Rattle.book.proofs.Questions.{then_none, asked_yes, kept_passed}
@@ -17,7 +19,7 @@ use Rattle.session.specs.declared.Turned.{Turned}
 use Rattle.session.specs.Steps.{begun, with_posted}
 use Rattle.session.specs.Calls.{start_question, no_session, session_started, strands_started}
 use Rattle.turns.specs.Parts.{room_asked, strands_with}
-use Rattle.turns.proofs.Answers.{two_then, at_first, at_second, at_last, Handed, handed_refused, handed_by}
+use Rattle.turns.proofs.Answers.{two_then, at_first, at_second, at_last, no_pass, kept, answered, Handed, handed_by}
 
 module _ (tables : Tables) (initiator : Process) (purpose : ℕ) (strands : List ℕ) where
   abbrev of_tables : ℕ
@@ -38,55 +40,38 @@ module _ (tables : Tables) (initiator : Process) (purpose : ℕ) (strands : List
   abbrev written : List ℕ
   written = posted tables.shape.n (initiator.0 - 1) first.outgoing strands
 
-  abbrev Started : Answer → Session → List ℕ → Type 0
-  Started answer session bytes =
-      (answer ≡ answer_to asked)
-      × ((session ≡ session_started tables initiator purpose strands)
-      × (bytes ≡ strands_started tables initiator purpose strands))
-
   by_parts : asked ≡ (of_tables then λ _. named then λ _. room)
   unfolding start_question
   by_parts =
       ap (λ (q : ℕ). of_tables then λ _. q)
       (sym (two_then (ask 10 (is_named tables.shape.n initiator.0)) (ask 11 (is_purpose purpose)) room))
 
-  handed : (answer : Answer) (session : Session) (bytes : List ℕ)
-      → Handed asked no_session (with_posted first) strands written answer session bytes → Started answer session bytes
-  unfolding session_started strands_started
-  handed answer session bytes h = h
-
   -- a question that fails
-  module _ (none : Session) (is_none : none ≡ no_session) where
-    stopped : (found : ℕ) (answer : Answer) (session : Session) → asked ≡ found → (found ≡ 0 → ⊥)
-        → (answer ≡ answer_to found) × (session ≡ none) → Started answer session strands
-    stopped found answer session e h told =
-        handed answer session strands
-        (handed_refused no_session (with_posted first) strands written answer session asked found e h (told.0, told.1 ∙ is_none))
+  pub start_tables : (e : Question) → of_tables ≡ number e → asked ≡ number e
+  start_tables e h = by_parts ∙ at_first of_tables named room (no_pass e of_tables h) ∙ h
 
-    pub start_tables : (found : ℕ) (answer : Answer) (session : Session) → found ≡ of_tables → (found ≡ 0 → ⊥)
-        → (answer ≡ answer_to found) × (session ≡ none) → Started answer session strands
-    start_tables found answer session e h told =
-        stopped found answer session (by_parts ∙ at_first of_tables named room (λ z. h (e ∙ z)) ∙ sym e) h told
+  module _ (passed : of_tables ≡ 0) where
+    pub start_named : (e : Question) → named ≡ number e → asked ≡ number e
+    start_named e h = by_parts ∙ at_second of_tables named room passed (no_pass e named h) ∙ h
 
-    module _ (passed : of_tables ≡ 0) where
-      pub start_named : (found : ℕ) (answer : Answer) (session : Session) → found ≡ named → (found ≡ 0 → ⊥)
-          → (answer ≡ answer_to found) × (session ≡ none) → Started answer session strands
-      start_named found answer session e h told =
-          stopped found answer session (by_parts ∙ at_second of_tables named room passed (λ z. h (e ∙ z)) ∙ sym e) h told
+    -- the invitations are put on the strands if there is room
+    pub start_posted : named ≡ 0 → (turned : Turned) → turned ≡ first → (answer : Result Session Question) (bytes : List ℕ)
+        → Handed (room_asked tables.shape.n turned strands) (with_posted turned) strands (strands_with tables.shape.n turned strands) answer bytes
+        → (by_number answer ≡ answer_with asked (session_started tables initiator purpose strands))
+        × (bytes ≡ strands_started tables initiator purpose strands)
+    unfolding begun session_started strands_started
+    start_posted h turned e answer bytes done =
+        let whole =
+        handed_by asked room (with_posted first) strands written answer bytes (by_parts ∙ at_last of_tables named room passed h)
+        (subst
+        (λ (t : Turned).
+        Handed (room_asked tables.shape.n t strands) (with_posted t) strands (strands_with tables.shape.n t strands) answer bytes)
+        e done) in
+        (whole.0 ∙ answered asked no_session (with_posted first), whole.1)
 
-      -- the invitations are put on the strands if there is room
-      pub start_posted : named ≡ 0 → (turned : Turned) → turned ≡ first → (answer : Answer) (session : Session) (bytes : List ℕ)
-          → Handed (room_asked tables.shape.n turned strands) none (with_posted turned) strands (strands_with tables.shape.n turned strands) answer session bytes
-          → Started answer session bytes
-      unfolding begun
-      start_posted h turned e answer session bytes done =
-          handed answer session bytes
-          (handed_by no_session (with_posted first) strands written answer session asked room bytes (by_parts ∙ at_last of_tables named room passed h)
-          (subst (λ (t : Session). Handed room t (with_posted first) strands written answer session bytes) is_none
-          (subst
-          (λ (t : Turned).
-          Handed (room_asked tables.shape.n t strands) none (with_posted t) strands (strands_with tables.shape.n t strands) answer session bytes)
-          e done)))
+  pub start_kept : (e : Question) → asked ≡ number e → strands ≡ strands_started tables initiator purpose strands
+  unfolding strands_started
+  start_kept e h = kept e asked strands written h
 
   -- the initiator is a process that there is, and stays the session's
   pub start_there : named ≡ 0 → (1 ≤ initiator.0) × (initiator.0 ≤ tables.shape.n)

@@ -8,9 +8,11 @@ use borrow.Author.Tests.{eq-eqb, ne_eqb, eqb-false, not-true, lt-ltb}
 use lib.ListN.{take, drop}
 use lib.Dec.{eqb, ltb}
 use Rattle.book.specs.Lent.{Tables}
-use Rattle.book.specs.declared.Answer.{Answer}
+use Rattle.std.specs.Prelude.{Result}
+use Rattle.book.specs.declared.Question.{Question}
 use Rattle.book.specs.declared.Process.{Process}
-use Rattle.book.specs.InTurn.{◌then◌, ask, answer_to}
+use Rattle.book.specs.InTurn.{◌then◌, ask, answer_with}
+use Rattle.book.specs.Numbers.{number, by_number}
 use Rattle.book.specs.Check.{tables_question}
 use Rattle.lists.proofs.Tests.{and_both, both_and}
 use Rattle.book.proofs.Questions.{then_none, then_passed, asked_yes, ask_yes, kept_passed}
@@ -31,7 +33,7 @@ use Rattle.session.specs.Fits.{session_named, session_purposes, session_fits}
 use Rattle.session.specs.Steps.{as_before, deliver, with_posted}
 use Rattle.session.specs.Calls.{turned, turn_question, session_after, strands_after}
 use Rattle.turns.specs.Parts.{room_asked, strands_with}
-use Rattle.turns.proofs.Answers.{three_then, at_first, at_second, at_last, Handed, handed_refused, handed_by}
+use Rattle.turns.proofs.Answers.{three_then, at_first, at_second, at_last, no_pass, kept, answered, Handed, handed_by}
 use Rattle.turns.proofs.Delivering.{same_initiator}
 
 -- ---- who is named
@@ -109,39 +111,18 @@ module _ (tables : Tables) (session : Session) (p : Process) (strands : List ℕ
       ap (λ (q : ℕ). of_tables then λ _. q)
       (sym (three_then (ask 10 names) (ask 11 (session_purposes session)) (ask 13 (session_fits tables session strands)) last))
 
-  abbrev After : Answer → Session → List ℕ → Type 0
-  After answer after bytes =
-      (answer ≡ answer_to asked)
-      × ((after ≡ session_after tables session p strands) × (bytes ≡ strands_after tables session p strands))
-
-  handed : (answer : Answer) (after : Session) (bytes : List ℕ) → Handed asked session (with_posted next) strands written answer after bytes
-      → After answer after bytes
-  unfolding session_after strands_after
-  handed answer after bytes h = h
-
   -- a question that fails
-  stopped : (found : ℕ) (answer : Answer) (after : Session) → asked ≡ found → (found ≡ 0 → ⊥)
-      → (answer ≡ answer_to found) × (after ≡ session) → After answer after strands
-  stopped found answer after e h told =
-      handed answer after strands (handed_refused session (with_posted next) strands written answer after asked found e h told)
-
-  pub turn_tables : (found : ℕ) (answer : Answer) (after : Session) → found ≡ of_tables → (found ≡ 0 → ⊥)
-      → (answer ≡ answer_to found) × (after ≡ session) → After answer after strands
-  turn_tables found answer after e h told =
-      stopped found answer after (by_parts ∙ at_first of_tables of_session last (λ z. h (e ∙ z)) ∙ sym e) h told
+  pub turn_tables : (e : Question) → of_tables ≡ number e → asked ≡ number e
+  turn_tables e h = by_parts ∙ at_first of_tables of_session last (no_pass e of_tables h) ∙ h
 
   module _ (passed : of_tables ≡ 0) where
-    pub turn_session : (found : ℕ) (answer : Answer) (after : Session) → found ≡ of_session → (found ≡ 0 → ⊥)
-        → (answer ≡ answer_to found) × (after ≡ session) → After answer after strands
-    turn_session found answer after e h told =
-        stopped found answer after (by_parts ∙ at_second of_tables of_session last passed (λ z. h (e ∙ z)) ∙ sym e) h told
+    pub turn_session : (e : Question) → of_session ≡ number e → asked ≡ number e
+    turn_session e h = by_parts ∙ at_second of_tables of_session last passed (no_pass e of_session h) ∙ h
 
     module _ (fits : of_session ≡ 0) where
       -- where nothing waits, nothing is sent: 17 passes and 18 answers
-      pub turn_nothing : (answer : Answer) (after : Session) → length_on session.lengths place ≡ 0
-          → (answer ≡ answer_to 18) × (after ≡ session) → After answer after strands
-      turn_nothing answer after h told =
-          stopped 18 answer after (by_parts ∙ at_last of_tables of_session last passed fits ∙ fails) (λ z. absurd (omega arith)) told
+      pub turn_nothing : length_on session.lengths place ≡ 0 → asked ≡ 18
+      turn_nothing h = by_parts ∙ at_last of_tables of_session last passed fits ∙ fails
         where
           roomy : has_room ≡ true
           roomy =
@@ -155,27 +136,34 @@ module _ (tables : Tables) (session : Session) (p : Process) (strands : List ℕ
 
       -- where a message waits, 17 is the last question
       pub turn_posted : (length_on session.lengths place ≡ 0 → ⊥) → (done : Turned) → done ≡ next
-          → (answer : Answer) (after : Session) (bytes : List ℕ)
-          → Handed (room_asked tables.shape.n done strands) session (with_posted done) strands (strands_with tables.shape.n done strands) answer after bytes
-          → After answer after bytes
-      turn_posted some done e answer after bytes given =
-          handed answer after bytes
-          (handed_by session (with_posted next) strands written answer after asked (ask 17 has_room) bytes
+          → (answer : Result Session Question) (bytes : List ℕ)
+          → Handed (room_asked tables.shape.n done strands) (with_posted done) strands (strands_with tables.shape.n done strands) answer bytes
+          → (by_number answer ≡ answer_with asked (session_after tables session p strands))
+          × (bytes ≡ strands_after tables session p strands)
+      unfolding session_after strands_after
+      turn_posted some done e answer bytes given =
+          let whole =
+          handed_by asked (ask 17 has_room) (with_posted next) strands written answer bytes
           (by_parts ∙ at_last of_tables of_session last passed fits ∙ only has_room waits (ap (λ (b : Bool). not b) (ne_eqb (length_on session.lengths place) 0 some)))
           (subst
           (λ (t : Process).
-          Handed (ask 17 (have_room tables.shape.n (t.0 - 1) next.outgoing strands)) session (with_posted next) strands
-          (posted tables.shape.n (t.0 - 1) next.outgoing strands) answer after bytes)
+          Handed (ask 17 (have_room tables.shape.n (t.0 - 1) next.outgoing strands)) (with_posted next) strands
+          (posted tables.shape.n (t.0 - 1) next.outgoing strands) answer bytes)
           (same_initiator tables session place (waiting_bytes tables.shape.n session strands place)
           (held tables.shape.n session place (waiting_bytes tables.shape.n session strands place)))
           (subst
           (λ (t : Turned).
-          Handed (room_asked tables.shape.n t strands) session (with_posted t) strands (strands_with tables.shape.n t strands) answer after bytes)
-          e given)))
+          Handed (room_asked tables.shape.n t strands) (with_posted t) strands (strands_with tables.shape.n t strands) answer bytes)
+          e given)) in
+          (whole.0 ∙ answered asked session (with_posted next), whole.1)
         where
           only : (a b : Bool) → b ≡ true → (ask 17 a then λ _. ask 18 b) ≡ ask 17 a
           only true b h = rw h
           only false b h = refl
+
+  pub turn_kept : (e : Question) → asked ≡ number e → strands ≡ strands_after tables session p strands
+  unfolding strands_after
+  turn_kept e h = kept e asked strands written h
 
   same_done : (done : Turned) → done ≡ next → done.session.initiator ≡ session.initiator
   same_done done e =

@@ -27,12 +27,16 @@ fn hand_over(
     requires w_value { w ≡ held rows.shape.n session k s.now }
     ensures { result ≡ deliver (lent rows.shape sent.now received.now) session k s.now w }
 {
+    let shape = rows.shape;
     match w {
-        Waiting::Nothing => session_steps::as_before(session),
-        Waiting::Asking => session_steps::deliver_down(session, rows, sent, received, k, s),
-        Waiting::Ending => session_steps::deliver_down(session, rows, sent, received, k, s),
+        Waiting::Nothing | Waiting::Stray => session_steps::as_before(session),
+        Waiting::Asking | Waiting::Ending => {
+            let participants = session.participants;
+            let p = participants[k];
+            let message = message::read_message(s, shape.n, p.me, p.initiator).unwrap();
+            session_steps::deliver_down(session, rows, sent, received, k, message)
+        }
         Waiting::Report => session_steps::deliver_up(session, rows, sent, received, k, s),
-        Waiting::Stray => session_steps::as_before(session),
     }
 }
 

@@ -5,7 +5,8 @@ mod deliver;
 ghost use Rattle.std.specs.Prelude.{◌≡◌, true, ◌&&◌, ◌-◌, ◌≤◌};
 ghost use Rattle.book.specs.Lent.{lent};
 ghost use Rattle.book.specs.Accepted.{AcceptedRows};
-ghost use Rattle.book.specs.InTurn.{◌then◌, ask, answer_to, unless_refused};
+ghost use Rattle.book.specs.InTurn.{◌then◌, ask, answer_to, answer_with, unless_refused};
+ghost use Rattle.book.specs.Numbers.{by_number};
 ghost use Rattle.machine.specs.Named.{participant_named};
 ghost use Rattle.strands.specs.Strands.{have_room, posted};
 ghost use Rattle.session.specs.Fits.{session_named, session_purposes, session_fits};
@@ -13,19 +14,8 @@ ghost use Rattle.session.specs.Steps.{with_posted};
 ghost use Rattle.session.specs.Calls.{start_question, session_started, strands_started, turn_question, session_after, strands_after};
 ghost use Rattle.turns.specs.Parts.{room_asked, strands_with};
 
-use book::{Answer, Counter, Process, Shape, TableRows};
-use session::{Session, SessionAnswer, Turned};
-
-// The question that refuses, with the session beside it.
-fn refused(session: Session, question: u32) -> SessionAnswer
-    requires { 1 ≤ question }
-    ensures { (result.answer ≡ answer_to question) × (result.session ≡ session) }
-{
-    SessionAnswer {
-        answer: Answer::Refused(question),
-        session,
-    }
-}
+use book::{Counter, Process, Question, Shape, TableRows};
+use session::{Session, Turned};
 
 // What a step sends is put on the strands, for a caller that has made sure of the room.
 fn post(turned: Turned, n: usize, strands: &mut [u8]) -> Session
@@ -44,25 +34,20 @@ fn post(turned: Turned, n: usize, strands: &mut [u8]) -> Session
     session
 }
 
-// What a step sends is put on the strands if it fits there (question 17); beside a refusal stands `kept`.
-fn post_if_room(turned: Turned, kept: Session, n: usize, strands: &mut [u8]) -> SessionAnswer
+// What a step sends is put on the strands if it fits there (question 17).
+fn post_if_room(turned: Turned, n: usize, strands: &mut [u8]) -> Result<Session, Question>
     requires le_n { (1 ≤ n) × (n ≤ 16) }
     requires le_initiator { 1 ≤ turned.session.initiator.0 }
-    ensures answer_value { result.answer ≡ answer_to (room_asked n turned strands.old) }
-    ensures session_value { result.session ≡ unless_refused (room_asked n turned strands.old) kept (with_posted turned) }
+    ensures answer { by_number result ≡ answer_with (room_asked n turned strands.old) (with_posted turned) }
     ensures strands_after { strands.new ≡ unless_refused (room_asked n turned strands.old) strands.old (strands_with n turned strands.old) }
 {
     let session = turned.session;
     let outgoing = turned.outgoing;
     let initiator = session.initiator;
     if !strands::have_room(outgoing, n, initiator.0 - 1, strands) {
-        return refused(kept, 17);
+        return Err(Question::Room);
     }
-    let session = post(turned, n, strands);
-    SessionAnswer {
-        answer: Answer::Accepted,
-        session,
-    }
+    Ok(post(turned, n, strands))
 }
 
 // A search, or a bare restart, begins: everybody else's invitation waits on its strand. Questions: the tables', 10, 11, 17.
@@ -73,23 +58,15 @@ pub fn start(
     initiator: Process,
     purpose: u64,
     strands: &mut [u8],
-) -> SessionAnswer
-    ensures answer_value { result.answer ≡ answer_to (start_question (lent shape sent.now received.now) initiator purpose strands.old) }
-    ensures session_value { result.session ≡ session_started (lent shape sent.now received.now) initiator purpose strands.old }
+) -> Result<Session, Question>
+    ensures answer { by_number result ≡ answer_with (start_question (lent shape sent.now received.now) initiator purpose strands.old) (session_started (lent shape sent.now received.now) initiator purpose strands.old) }
     ensures strands_after { strands.new ≡ strands_started (lent shape sent.now received.now) initiator purpose strands.old }
 {
-    let none = session_steps::no_session();
-    let question = tables::question(shape, sent, received);
-    if question != 0 {
-        return refused(none, question);
-    }
-    let question = initiator::begin_question(shape.n, initiator, purpose);
-    if question != 0 {
-        return refused(none, question);
-    }
+    tables::check(shape, sent, received)?;
+    initiator::begin_question(shape.n, initiator, purpose)?;
     let rows = book::rows_of(shape);
-    let turned = session_steps::begin(rows, sent, received, initiator, purpose);
-    post_if_room(turned, none, shape.n, strands)
+    let begun = session_steps::begin(rows, sent, received, initiator, purpose);
+    post_if_room(begun, shape.n, strands)
 }
 
 // A start, without the questions. Inner: asks for the rows of accepted tables, and a start that no question refuses.
@@ -119,25 +96,25 @@ fn session_question(
     received: &[Counter],
     p: Process,
     strands: &[u8],
-) -> u32
+) -> Result<(), Question>
     requires { AcceptedRows rows sent.now received.now }
-    ensures { result ≡ (ask 10 (participant_named rows.shape.n p.0 session.initiator.0 && session_named rows.shape.n session) then λ _. ask 11 (session_purposes session) then λ _. ask 13 (session_fits (lent rows.shape sent.now received.now) session strands.now)) }
+    ensures { by_number result ≡ answer_to (ask 10 (participant_named rows.shape.n p.0 session.initiator.0 && session_named rows.shape.n session) then λ _. ask 11 (session_purposes session) then λ _. ask 13 (session_fits (lent rows.shape sent.now received.now) session strands.now)) }
 {
     let shape = rows.shape;
     let initiator = session.initiator;
     if !machine::participant_named(shape.n, p, initiator) {
-        return 10;
+        return Err(Question::Named);
     }
     if !session_check::named(session, shape.n) {
-        return 10;
+        return Err(Question::Named);
     }
     if !session_check::purposes(session) {
-        return 11;
+        return Err(Question::Purpose);
     }
     if !session_check::fits(session, rows, sent, received, strands) {
-        return 13;
+        return Err(Question::StateFits);
     }
-    0
+    Ok(())
 }
 
 // A turn: the message on p's strand is delivered, and the replies wait on theirs. Questions: the tables', 10, 11, 13, 17, 18; a
@@ -149,27 +126,20 @@ pub fn turn(
     received: &[Counter],
     p: Process,
     strands: &mut [u8],
-) -> SessionAnswer
-    ensures answer_value { result.answer ≡ answer_to (turn_question (lent shape sent.now received.now) session p strands.old) }
-    ensures session_value { result.session ≡ session_after (lent shape sent.now received.now) session p strands.old }
+) -> Result<Session, Question>
+    ensures answer { by_number result ≡ answer_with (turn_question (lent shape sent.now received.now) session p strands.old) (session_after (lent shape sent.now received.now) session p strands.old) }
     ensures strands_after { strands.new ≡ strands_after (lent shape sent.now received.now) session p strands.old }
 {
-    let question = tables::question(shape, sent, received);
-    if question != 0 {
-        return refused(session, question);
-    }
+    tables::check(shape, sent, received)?;
     let rows = book::rows_of(shape);
-    let question = session_question(session, rows, sent, received, p, strands);
-    if question != 0 {
-        return refused(session, question);
-    }
+    session_question(session, rows, sent, received, p, strands)?;
     let lengths = session.lengths;
     let place = p.0 - 1;
     if lengths[place] == 0 {
-        return refused(session, 18);
+        return Err(Question::Waiting);
     }
     let turned = deliver::deliver(session, rows, sent, received, place, strands);
-    post_if_room(turned, session, shape.n, strands)
+    post_if_room(turned, shape.n, strands)
 }
 
 // A turn, without the questions. Inner: asks for the rows of accepted tables, and a turn that no question refuses.

@@ -1,5 +1,6 @@
 -- Reading a number group by group: what the groups so far make, joined to the number of the groups to come, is the whole.
 -- Assumes nothing.
+use Rattle.std.specs.Prelude.{Option, Some, None}
 use mathlib.Core.Bool.{true, false}
 use mathlib.Core.Path.{◌≡◌, refl, sym, ap, ◌∙◌}
 use mathlib.Core.List.{List, ◌∷◌}
@@ -14,25 +15,23 @@ use lib.Dec.{eqb}
 use lib.Arith.{digits_lt}
 use lib.Bits.{bit_and, bit_or, mask_lt, or_shifted_r}
 use lib.Pow.{pow-add, shl_exact}
-use Rattle.varint.specs.declared.Numeral.{Numeral}
-use Rattle.varint.specs.declared.Numeral.TheVariants.{Number, Refused}
 use Rattle.varint.specs.Ending.{above_bits, Ending, ended_by}
 use Rattle.varint.specs.Number.{above, at_most, read_groups, read_number}
 use Rattle.varint.proofs.Reading.{groups_none, groups_last, groups_more, last_some, at_most_in, at_most_over}
 use Rattle.varint.proofs.WriteTurns.{low_group}
 
-joined_none : (r : Numeral) → r ≡ above_bits 0 0 r
-joined_none Refused = refl
-joined_none (Number high next) = let e : high ≡ 0 + high * 1 = omega arith in ap (λ (v : ℕ). Number v next) e
+joined_none : (r : Option (ℕ × ℕ)) → r ≡ above_bits 0 0 r
+joined_none None = refl
+joined_none (Some (high, next)) = let e : high ≡ 0 + high * 1 = omega arith in ap (λ (v : ℕ). Some (v, next)) e
 
-joined_above : (value shift low : ℕ) (r : Numeral) → above_bits value shift (above low r) ≡ above_bits (value + low * 2 ^ shift) (shift + 7) r
-joined_above value shift low Refused = refl
-joined_above value shift low (Number high next) =
+joined_above : (value shift low : ℕ) (r : Option (ℕ × ℕ)) → above_bits value shift (above low r) ≡ above_bits (value + low * 2 ^ shift) (shift + 7) r
+joined_above value shift low None = refl
+joined_above value shift low (Some (high, next)) =
     let p : high * 128 * 2 ^ shift ≡ high * 2 ^ (shift + 7)
     = mul_assoc high 128 (2 ^ shift) ∙ ap (λ (x : ℕ). high * x) (mul_comm 128 (2 ^ shift) ∙ sym (pow-add 2 shift 7)) in
     let q : (low + high * 128) * 2 ^ shift ≡ low * 2 ^ shift + high * 128 * 2 ^ shift = add-mul low (high * 128) (2 ^ shift) in
     let e : value + (low + high * 128) * 2 ^ shift ≡ value + low * 2 ^ shift + high * 2 ^ (shift + 7) = omega arith in
-    ap (λ (v : ℕ). Number v next) e
+    ap (λ (v : ℕ). Some (v, next)) e
 
 -- a group joined above `shift` bits by a shift and an or
 join_group : (value shift low : ℕ) → value < 2 ^ shift → low < 128 → shift + 7 ≤ 64
@@ -49,23 +48,23 @@ not_zero (suc b) f = omega arith
 
 module _ (shift limit value b next : ℕ) where
   -- a last group of zero after others
-  pub end_zero : b ≡ 0 → 0 < shift → Refused ≡ ended_by shift limit value b next
+  pub end_zero : b ≡ 0 → 0 < shift → None ≡ ended_by shift limit value b next
   unfolding ended_by
   end_zero z after = let first : eqb shift 0 ≡ false = ne_eqb shift 0 (λ e. omega arith) in rw (first, z)
 
   module _ (e : Ending shift value b) (shortest : 0 < shift → 1 ≤ b) where
     -- a last group makes the number, if the limit allows it
-    whole : ended_by shift limit value b next ≡ at_most limit (Number (bit_or value (b * 2 ^ shift % 2 ^ 64)) next)
+    whole : ended_by shift limit value b next ≡ at_most limit (Some (bit_or value (b * 2 ^ shift % 2 ^ 64), next))
     unfolding ended_by
     whole =
         let some : eqb shift 0 ≡ false → 1 ≤ b = λ f. shortest (not_zero shift (eqb-false shift 0 f)) in
         rw (last_some (eqb shift 0) b next some, join_group value shift b e.small e.last e.bits)
 
-    pub end_over : limit < bit_or value (b * 2 ^ shift % 2 ^ 64) → Refused ≡ ended_by shift limit value b next
+    pub end_over : limit < bit_or value (b * 2 ^ shift % 2 ^ 64) → None ≡ ended_by shift limit value b next
     end_over over = sym (whole ∙ at_most_over limit (bit_or value (b * 2 ^ shift % 2 ^ 64)) next over)
 
     pub end_in : bit_or value (b * 2 ^ shift % 2 ^ 64) ≤ limit
-        → Number (bit_or value (b * 2 ^ shift % 2 ^ 64)) next ≡ ended_by shift limit value b next
+        → Some (bit_or value (b * 2 ^ shift % 2 ^ 64), next) ≡ ended_by shift limit value b next
     end_in under = sym (whole ∙ at_most_in limit (bit_or value (b * 2 ^ shift % 2 ^ 64)) next under)
 
 -- ---- the groups of a number
@@ -84,14 +83,14 @@ sofar_begun s at groups =
 
 -- the bytes end before the number does
 pub turn_short : (s : List ℕ) (at groups limit value shift k i : ℕ) → length s ≤ i → Sofar s at groups value shift k i
-    → Refused ≡ read_number groups limit s at
+    → None ≡ read_number groups limit s at
 unfolding read_number
 turn_short s at groups limit value shift k i h r =
     rw (r.whole, drop_of_length-le s {i = i} h, groups_none (groups - k) (eqb k 0) i)
 
 -- no group may follow, and yet the number goes on
 pub turn_long : (s : List ℕ) (at groups limit value shift k i : ℕ) → groups ≤ k → Sofar s at groups value shift k i
-    → Refused ≡ read_number groups limit s at
+    → None ≡ read_number groups limit s at
 unfolding read_number read_groups
 turn_long s at groups limit value shift k i h r = let none : groups - k ≡ 0 = omega arith in rw (r.whole, none)
 
@@ -121,15 +120,15 @@ module _ (s : List ℕ) (at groups value shift k i b : ℕ) (byte : b ≡ get_or
       let same : eqb k 0 ≡ eqb shift 0 = rw inv.bits (first_group k) in
       rw (split, groups_last (groups - (k + 1)) (eqb k 0) b (drop (i + 1) s) i small, same)
 
-  pub turn_zero : (limit : ℕ) → b ≡ 0 → 0 < k → Refused ≡ read_number groups limit s at
+  pub turn_zero : (limit : ℕ) → b ≡ 0 → 0 < k → None ≡ read_number groups limit s at
   turn_zero limit z after = end_zero shift limit value b (i + 1) z (omega (arith, inv.bits)) ∙ turn_ended limit (omega arith)
 
-  pub turn_over : (limit : ℕ) → b < 128 → (0 < k → 1 ≤ b) → limit < bit_or value (b * 2 ^ shift % 2 ^ 64) → Refused ≡ read_number groups limit s at
+  pub turn_over : (limit : ℕ) → b < 128 → (0 < k → 1 ≤ b) → limit < bit_or value (b * 2 ^ shift % 2 ^ 64) → None ≡ read_number groups limit s at
   turn_over limit small shortest over =
       end_over shift limit value b (i + 1) (turn_ending small) (λ h. shortest (omega (arith, inv.bits))) over ∙ turn_ended limit small
 
   pub turn_last : (limit : ℕ) → b < 128 → (0 < k → 1 ≤ b) → bit_or value (b * 2 ^ shift % 2 ^ 64) ≤ limit
-      → Number (bit_or value (b * 2 ^ shift % 2 ^ 64)) (i + 1) ≡ read_number groups limit s at
+      → Some (bit_or value (b * 2 ^ shift % 2 ^ 64), i + 1) ≡ read_number groups limit s at
   turn_last limit small shortest under =
       end_in shift limit value b (i + 1) (turn_ending small) (λ h. shortest (omega (arith, inv.bits))) under ∙ turn_ended limit small
 

@@ -1,5 +1,6 @@
 -- Numbers one after another, for every list, place, number of groups and limit.
 -- Assumes nothing.
+use Rattle.std.specs.Prelude.{Option, Some, None}
 use mathlib.Core.Path.{◌≡◌, refl, sym, ap, ◌∙◌}
 use mathlib.Core.List.{List, [], ◌∷◌, ◌++◌, append-nil, append_assoc}
 use Prim.Native.Nat.{ℕ, zero, suc, ◌+◌, ◌-◌, ◌*◌, ◌^◌, ◌≤◌, ◌<◌}
@@ -9,8 +10,6 @@ use lib.ListN.{length, drop, get_or, length-append}
 use lib.Seq.{drop-drop, drop-append_seam}
 use lib.Dec.{T}
 use lib.Pow.{are_bytes}
-use Rattle.varint.specs.declared.Numeral.{Numeral}
-use Rattle.varint.specs.declared.Numeral.TheVariants.{Number, Refused}
 use Rattle.varint.specs.Number.{encode, read_number}
 use Rattle.varint.specs.Sequence.{encode_all, Numbers, scan, numbers_at}
 use Rattle.varint.proofs.Bytes.{bytes_append}
@@ -23,12 +22,12 @@ use Rattle.varint.proofs.Reading.{read_next, read_past, read_encode, encode_read
 abbrev front : ℕ → Numbers → Numbers
 front v r = record { found = v ∷ r.found; stop = r.stop }
 
-scan_none : (g l fuel : ℕ) (s : List ℕ) (at : ℕ) → read_number g l s at ≡ Refused → scan g l fuel s at ≡ record { found = []; stop = at }
+scan_none : (g l fuel : ℕ) (s : List ℕ) (at : ℕ) → read_number g l s at ≡ None → scan g l fuel s at ≡ record { found = []; stop = at }
 unfolding scan
 scan_none g l zero s at e = refl
 scan_none g l (suc fuel) s at e = rw (e, scan)
 
-scan_more : (g l fuel : ℕ) (s : List ℕ) (at v next : ℕ) → read_number g l s at ≡ Number v next
+scan_more : (g l fuel : ℕ) (s : List ℕ) (at v next : ℕ) → read_number g l s at ≡ Some (v, next)
     → scan g l (suc fuel) s at ≡ front v (scan g l fuel s next)
 unfolding scan
 scan_more g l fuel s at v next e = rw (e, scan)
@@ -37,29 +36,29 @@ scan_more g l fuel s at v next e = rw (e, scan)
 scan_fuel : (g l fuel more : ℕ) (s : List ℕ) (at : ℕ) → length s ≤ at + fuel → length s ≤ at + more
     → scan g l fuel s at ≡ scan g l more s at
 scan_fuel g l zero more s at h k =
-    let p : read_number g l s at ≡ Refused = read_past g l s at (omega arith) in
+    let p : read_number g l s at ≡ None = read_past g l s at (omega arith) in
     rw (scan_none g l zero s at p, scan_none g l more s at p)
 scan_fuel g l (suc fuel) zero s at h k =
-    let p : read_number g l s at ≡ Refused = read_past g l s at (omega arith) in
+    let p : read_number g l s at ≡ None = read_past g l s at (omega arith) in
     rw (scan_none g l zero s at p, scan_none g l (suc fuel) s at p)
 scan_fuel g l (suc fuel) (suc more) s at h k = go (read_number g l s at) refl (λ n. scan_fuel g l fuel more s n)
   where
-    go : (r : Numeral) → read_number g l s at ≡ r
+    go : (r : Option (ℕ × ℕ)) → read_number g l s at ≡ r
         → ((n : ℕ) → length s ≤ n + fuel → length s ≤ n + more → scan g l fuel s n ≡ scan g l more s n)
         → scan g l (suc fuel) s at ≡ scan g l (suc more) s at
-    go Refused e ih = rw (scan_none g l (suc fuel) s at e, scan_none g l (suc more) s at e)
-    go (Number v next) e ih =
+    go None e ih = rw (scan_none g l (suc fuel) s at e, scan_none g l (suc more) s at e)
+    go (Some (v, next)) e ih =
         let n = read_next g l s at v next e in
         rw (scan_more g l fuel s at v next e, scan_more g l more s at v next e, ih next (omega arith) (omega arith))
 
 -- where no number stands, none is found
-pub numbers_none : (g l : ℕ) (s : List ℕ) (at : ℕ) → read_number g l s at ≡ Refused
+pub numbers_none : (g l : ℕ) (s : List ℕ) (at : ℕ) → read_number g l s at ≡ None
     → numbers_at g l s at ≡ record { found = []; stop = at }
 unfolding numbers_at
 numbers_none g l s at e = scan_none g l (length s - at) s at e
 
 -- where a number stands, it is found, and then what is found after it
-pub numbers_more : (g l : ℕ) (s : List ℕ) (at v next : ℕ) → read_number g l s at ≡ Number v next
+pub numbers_more : (g l : ℕ) (s : List ℕ) (at v next : ℕ) → read_number g l s at ≡ Some (v, next)
     → numbers_at g l s at ≡ record { found = v ∷ (numbers_at g l s next).found; stop = (numbers_at g l s next).stop }
 unfolding numbers_at
 numbers_more g l s at v next e =
@@ -71,17 +70,17 @@ numbers_more g l s at v next e =
 
 -- it holds where no number stands, and it goes back from the place after a number to the number's place
 numbers_induction : (g l : ℕ) (s : List ℕ) (P : ℕ → Numbers → Type 0)
-    → ((at : ℕ) → read_number g l s at ≡ Refused → P at (record { found = []; stop = at }))
-    → ((at v next : ℕ) (r : Numbers) → read_number g l s at ≡ Number v next → P next r → P at (front v r))
+    → ((at : ℕ) → read_number g l s at ≡ None → P at (record { found = []; stop = at }))
+    → ((at v next : ℕ) (r : Numbers) → read_number g l s at ≡ Some (v, next) → P next r → P at (front v r))
     → (fuel at : ℕ) → length s ≤ at + fuel → P at (numbers_at g l s at)
 numbers_induction g l s P none more zero at h =
-    let e : read_number g l s at ≡ Refused = read_past g l s at (omega arith) in rw (numbers_none g l s at e) (none at e)
+    let e : read_number g l s at ≡ None = read_past g l s at (omega arith) in rw (numbers_none g l s at e) (none at e)
 numbers_induction g l s P none more (suc fuel) at h =
     go (read_number g l s at) refl (λ n. numbers_induction g l s P none more fuel n)
   where
-    go : (r : Numeral) → read_number g l s at ≡ r → ((n : ℕ) → length s ≤ n + fuel → P n (numbers_at g l s n)) → P at (numbers_at g l s at)
-    go Refused e ih = rw (numbers_none g l s at e) (none at e)
-    go (Number v next) e ih =
+    go : (r : Option (ℕ × ℕ)) → read_number g l s at ≡ r → ((n : ℕ) → length s ≤ n + fuel → P n (numbers_at g l s n)) → P at (numbers_at g l s at)
+    go None e ih = rw (numbers_none g l s at e) (none at e)
+    go (Some (v, next)) e ih =
         let n = read_next g l s at v next e in
         rw (numbers_more g l s at v next e) (more at v next (numbers_at g l s next) e (ih next (omega arith)))
 
@@ -139,7 +138,7 @@ numbers_encode_all g l (n ∷ ns) s at rest h k f e =
     let next : ℕ = at + length (encode n) in
     let small : n ≤ l = f 0 (omega arith) in
     let d : drop at s ≡ encode n ++ (encode_all ns ++ rest) = e ∙ append_assoc (encode n) (encode_all ns) rest in
-    let r : read_number g l s at ≡ Number n next = read_encode g l n s at (encode_all ns ++ rest) h (omega arith) small d in
+    let r : read_number g l s at ≡ Some (n, next) = read_encode g l n s at (encode_all ns ++ rest) h (omega arith) small d in
     let after_it : drop next s ≡ encode_all ns ++ rest
     = sym (drop-drop (length (encode n)) at s) ∙ ap (drop (length (encode n))) d ∙ drop-append_seam (encode n) (encode_all ns ++ rest) in
     let ih = numbers_encode_all g l ns s next rest h k (λ i m. f (suc i) (omega arith)) after_it in

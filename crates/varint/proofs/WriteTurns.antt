@@ -1,5 +1,6 @@
 -- The loops that write and that measure a number: what is done, followed by the bytes of what is left, is the whole.
 -- Assumes nothing.
+use Rattle.std.specs.Prelude.{Some, None}
 use mathlib.Core.Path.{◌≡◌, refl, ap, ◌∙◌}
 use mathlib.Core.List.{List, ◌++◌, append_assoc}
 use Prim.Native.Nat.{ℕ, suc, ◌+◌, ◌^◌, ◌/◌, ◌%◌, ◌≤◌, ◌<◌}
@@ -9,7 +10,6 @@ use borrow.Author.Tests.{le-leb, lt-leb}
 use lib.ListN.{length, take, drop, set, length-set}
 use lib.Seq.{sets, sets-eq, drop_at, length-take-le}
 use lib.Bits.{bit_and, bit_or, and_mask, mask_lt, or_lt, or_shifted_r}
-use Rattle.varint.specs.declared.Written.TheVariants.{Next, Full}
 use Rattle.varint.specs.Number.{encode}
 use Rattle.varint.specs.Write.{place_after, number_put}
 use Rattle.varint.proofs.Encode.{encode_last, encode_more, encode_some, encode_size}
@@ -101,11 +101,11 @@ drop_sets vs out at h =
 
 -- ---- where there is room, and where there is none
 
-pub place_room : (v : ℕ) (out : List ℕ) (at : ℕ) → at + length (encode v) ≤ length out → place_after v out at ≡ Next (at + length (encode v))
+pub place_room : (v : ℕ) (out : List ℕ) (at : ℕ) → at + length (encode v) ≤ length out → place_after v out at ≡ Some (at + length (encode v))
 unfolding place_after
 place_room v out at h = rw (le-leb (at + length (encode v)) (length out) h, place_after)
 
-pub place_full : (v : ℕ) (out : List ℕ) (at : ℕ) → length out < at + length (encode v) → place_after v out at ≡ Full
+pub place_full : (v : ℕ) (out : List ℕ) (at : ℕ) → length out < at + length (encode v) → place_after v out at ≡ None
 unfolding place_after
 place_full v out at h = rw (lt-leb (at + length (encode v)) (length out) h, place_after)
 

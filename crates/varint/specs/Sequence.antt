@@ -1,6 +1,5 @@
 -- Numbers that stand one after another in bytes.
-use Rattle.std.specs.Prelude.{List, [], ◌∷◌, ◌++◌, ℕ, zero, suc, ◌-◌, length, drop}
-use Rattle.varint.specs.declared.Numeral.TheVariants.{Number, Refused}
+use Rattle.std.specs.Prelude.{List, [], ◌∷◌, ◌++◌, ℕ, zero, suc, ◌-◌, length, drop, Some, None}
 use Rattle.varint.specs.Number.{encode, read_number}
 
 -- the bytes of numbers written one after another
@@ -17,8 +16,8 @@ unfoldable pub scan : ℕ → ℕ → ℕ → List ℕ → ℕ → Numbers
 scan groups limit zero s at = record { found = []; stop = at }
 scan groups limit (suc fuel) s at =
     elim (read_number groups limit s at) [
-      | Number v next ↦ let r = scan groups limit fuel s next in record { found = v ∷ r.found; stop = r.stop }
-      | Refused ↦ record { found = []; stop = at }
+      | Some (v, next) ↦ let r = scan groups limit fuel s next in record { found = v ∷ r.found; stop = r.stop }
+      | None ↦ record { found = []; stop = at }
     ]
 
 -- every number takes a byte at least, so there are no more of them than bytes

@@ -7,31 +7,15 @@ ghost use Rattle.varint.specs.Ending.{Ending, ended_by};
 ghost use Rattle.varint.specs.Number.{encode, read_number};
 ghost use Rattle.varint.specs.Write.{place_after, number_put};
 
-// What stands at a place.
-#[derive(Clone, Copy)]
-pub enum Numeral {
-    // A number, and the place after it.
-    Number(u64, usize),
-    // No number: not whole, not shortest, of too many groups or too large.
-    Refused,
-}
-
-// The place after a number that was written.
-#[derive(Clone, Copy)]
-pub enum Written {
-    Next(usize),
-    // There was no room, and nothing was written.
-    Full,
-}
-
 fn wide(b: u8) -> u64
     ensures { (result ≡ b) × (result < 256) }
 {
     b as u64
 }
 
-// The number at a place, in at most `groups` groups and at most `limit`. Nine groups are the most that a `u64` holds.
-pub fn read_number(s: &[u8], at: usize, groups: u32, limit: u64) -> Numeral
+// The number at a place and the place after it, in at most `groups` groups and at most `limit`: none where it is not whole, not
+// shortest, of too many groups or too large. Nine groups are the most that a `u64` holds.
+pub fn read_number(s: &[u8], at: usize, groups: u32, limit: u64) -> Option<(u64, usize)>
     requires { groups ≤ 9 }
     ensures { result ≡ read_number groups limit s.now at }
 {
@@ -41,45 +25,45 @@ pub fn read_number(s: &[u8], at: usize, groups: u32, limit: u64) -> Numeral
     let mut i = at;
     while k < groups {
         if s.len() <= i {
-            return Numeral::Refused;
+            return None;
         }
         let b = wide(s[i]);
         if b < 128 {
             if b == 0 && 0 < k {
-                return Numeral::Refused;
+                return None;
             }
             let v = value | (b << shift);
             if limit < v {
-                return Numeral::Refused;
+                return None;
             }
-            return Numeral::Number(v, i + 1);
+            return Some((v, i + 1));
         }
         value = value | ((b & 127) << shift);
         shift += 7;
         k += 1;
         i += 1;
     }
-    Numeral::Refused
+    None
 }
 
 // The last group, above `shift` bits that make `value`: not zero where groups went before, and the number within the limit.
 // `read_number` says it for itself: with a call here its loop compiles to more instructions.
-fn ended(shift: u32, limit: u64, value: u64, b: u64, next: usize) -> Numeral
+fn ended(shift: u32, limit: u64, value: u64, b: u64, next: usize) -> Option<(u64, usize)>
     requires { Ending shift value b }
     ensures { result ≡ ended_by shift limit value b next }
 {
     if b == 0 && 0 < shift {
-        return Numeral::Refused;
+        return None;
     }
     let v = value | (b << shift);
     if limit < v {
-        return Numeral::Refused;
+        return None;
     }
-    Numeral::Number(v, next)
+    Some((v, next))
 }
 
 // A number of at most five groups, where five bytes are left: `read_number` without its loop, for readers of many numbers.
-fn read_five(s: &[u8], at: usize, limit: u64) -> Numeral
+fn read_five(s: &[u8], at: usize, limit: u64) -> Option<(u64, usize)>
     requires { at + 5 ≤ length s.now }
     ensures { result ≡ read_number 5 limit s.now at }
 {
@@ -107,11 +91,11 @@ fn read_five(s: &[u8], at: usize, limit: u64) -> Numeral
     if b4 < 128 {
         return ended(28, limit, v3, b4, at + 5);
     }
-    Numeral::Refused
+    None
 }
 
 // The number at a place, in at most five groups and at most `limit`.
-pub fn read_short(s: &[u8], at: usize, limit: u64) -> Numeral
+pub fn read_short(s: &[u8], at: usize, limit: u64) -> Option<(u64, usize)>
     ensures { result ≡ read_number 5 limit s.now at }
 {
     if 5 <= s.len() && at <= s.len() - 5 {
@@ -150,18 +134,19 @@ pub fn put_number(v: u64, out: &mut [u8], at: usize) -> usize
     i + 1
 }
 
-// The number's bytes written at a place, where there is room for them.
-pub fn write_number(v: u64, out: &mut [u8], at: usize) -> Written
+// The number's bytes written at a place, where there is room for them: the place after them, none where there is no room and nothing
+// was written.
+pub fn write_number(v: u64, out: &mut [u8], at: usize) -> Option<usize>
     ensures answer { result ≡ place_after v out.old at }
     ensures bytes { out.new ≡ number_put v out.old at }
 {
     let n = size_of(v);
     if out.len() < at {
-        return Written::Full;
+        return None;
     }
     if out.len() - at < n {
-        return Written::Full;
+        return None;
     }
     let next = put_number(v, out, at);
-    Written::Next(next)
+    Some(next)
 }

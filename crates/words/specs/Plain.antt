@@ -1,8 +1,6 @@
 -- Shapes, sets, lengths, orders, lists of what to send again and pairs as words; and counters that are lent beside the tables.
 use Rattle.std.specs.Prelude.{List, [], ◌∷◌, ◌++◌, ℕ, suc, get_or}
 use Rattle.std.proofs.Math.Option.{Option, none, some}
-use Rattle.book.specs.declared.Answer.{Answer}
-use Rattle.book.specs.declared.Answer.TheVariants.{Accepted, Refused}
 use Rattle.book.specs.declared.Shape.{Shape}
 use Rattle.book.specs.declared.Checkpoint.{Checkpoint}
 use Rattle.book.specs.declared.Count.{Count}
@@ -13,11 +11,6 @@ use Rattle.finder.specs.Line.{checkpoints}
 use Rattle.restart.specs.declared.Order.{Order}
 use Rattle.restart.specs.declared.Resend.{Resend}
 use Rattle.words.specs.Words.{word, sixteen_at, shape_counts_at, matrix_length, count_words}
-
--- an answer as a number: 0, or the question that refuses
-abbrev pub number_of : Answer → ℕ
-number_of Accepted = 0
-number_of (Refused question) = question
 
 -- n, then sixteen counts
 unfoldable pub shape_in : List ℕ → Shape

@@ -6,9 +6,9 @@ ghost use Rattle.std.specs.Prelude.{◌≡◌, ◌+◌, ◌≤◌, length};
 ghost use Rattle.std.proofs.lemmas.List.Edits.{sets};
 ghost use Rattle.book.specs.Bounds.{most_processes};
 ghost use Rattle.words.specs.Words.{shape_length, set_length, resend_length, order_length, matrix_length, all_below, counter_in, tally_in, sixteen_at, counts_at, count_words};
-ghost use Rattle.words.specs.Plain.{number_of, shape_in, shape_words, set_in, counts_in, number_words, set_words, resend_words, order_words};
+ghost use Rattle.words.specs.Plain.{shape_in, shape_words, set_in, counts_in, number_words, set_words, resend_words, order_words};
 
-use book::{Answer, Checkpoint, Count, Counter, Shape};
+use book::{Checkpoint, Count, Counter, Shape};
 use restart::{Order, Resend};
 
 // What a counter's word is below: a counter is at most the mark for "not known".
@@ -16,16 +16,6 @@ pub const COUNTER_BOUND: u64 = book::MARK + 1;
 
 // What the word of a tally is below, a count of rounds or of deliveries.
 pub const TALLY_BOUND: u64 = machine::TALLY_LIMIT as u64 + 1;
-
-// An answer as a number: 0, or the question that refuses.
-pub fn number_of(answer: Answer) -> u32
-    ensures { result ≡ number_of answer }
-{
-    match answer {
-        Answer::Accepted => 0,
-        Answer::Refused(question) => question,
-    }
-}
 
 // A word as a number of a shape, a name or a length.
 pub fn number(w: u64) -> usize
@@ -67,12 +57,10 @@ pub fn all_below(bound: u64, words: &[u64], at: usize, k: usize) -> bool
     requires { at + k ≤ length words.now }
     ensures { result ≡ all_below bound words.now at k }
 {
-    let mut i = 0;
-    while i < k {
+    for i in 0..k {
         if bound <= words[at + i] {
             return false;
         }
-        i += 1;
     }
     true
 }
@@ -83,10 +71,8 @@ pub fn numbers_at(words: &[u64], at: usize) -> [usize; 16]
     ensures { result ≡ sixteen_at words.now at }
 {
     let mut numbers = [0usize; 16];
-    let mut i = 0;
-    while i < book::MOST_PROCESSES {
+    for i in 0..book::MOST_PROCESSES {
         numbers[i] = number(words[at + i]);
-        i += 1;
     }
     numbers
 }
@@ -97,10 +83,8 @@ pub fn row_at(words: &[u64], at: usize) -> [Count; 16]
     ensures { result ≡ counts_at most_processes words.now at }
 {
     let mut counts = [Count(0); 16];
-    let mut i = 0;
-    while i < book::MOST_PROCESSES {
+    for i in 0..book::MOST_PROCESSES {
         counts[i] = Count(counter_in(words[at + i]));
-        i += 1;
     }
     counts
 }
@@ -111,10 +95,8 @@ pub fn matrix_at(words: &[u64], at: usize) -> [Count; 256]
     ensures { result ≡ counts_at matrix_length words.now at }
 {
     let mut counts = [Count(0); 256];
-    let mut i = 0;
-    while i < matrix::ENTRIES {
+    for i in 0..matrix::ENTRIES {
         counts[i] = Count(counter_in(words[at + i]));
-        i += 1;
     }
     counts
 }
@@ -135,10 +117,8 @@ pub fn set_in(words: &[u64]) -> [Checkpoint; 16]
     ensures { result ≡ set_in words.now }
 {
     let mut set = [Checkpoint(0); 16];
-    let mut i = 0;
-    while i < book::MOST_PROCESSES {
+    for i in 0..book::MOST_PROCESSES {
         set[i] = Checkpoint(number(words[i]));
-        i += 1;
     }
     set
 }
@@ -149,10 +129,8 @@ pub fn counts_in(entries: &[Counter]) -> [Count; 16]
     ensures { result ≡ counts_in entries.now }
 {
     let mut counts = [Count(0); 16];
-    let mut i = 0;
-    while i < book::MOST_PROCESSES {
+    for i in 0..book::MOST_PROCESSES {
         counts[i] = Count(entries[i]);
-        i += 1;
     }
     counts
 }
@@ -162,10 +140,8 @@ pub fn put_numbers(numbers: [usize; 16], words: &mut [u64], at: usize)
     requires { at + most_processes ≤ length words.old }
     ensures { words.new ≡ sets words.old at (number_words numbers) }
 {
-    let mut i = 0;
-    while i < book::MOST_PROCESSES {
+    for i in 0..book::MOST_PROCESSES {
         words[at + i] = of_number(numbers[i]);
-        i += 1;
     }
 }
 
@@ -174,11 +150,9 @@ pub fn put_set(set: [Checkpoint; 16], words: &mut [u64], at: usize)
     requires { at + most_processes ≤ length words.old }
     ensures { words.new ≡ sets words.old at (set_words set) }
 {
-    let mut i = 0;
-    while i < book::MOST_PROCESSES {
+    for i in 0..book::MOST_PROCESSES {
         let r = set[i];
         words[at + i] = of_number(r.0);
-        i += 1;
     }
 }
 
@@ -187,11 +161,9 @@ pub fn put_row(row: [Count; 16], words: &mut [u64], at: usize)
     requires { at + most_processes ≤ length words.old }
     ensures { words.new ≡ sets words.old at (count_words most_processes row) }
 {
-    let mut i = 0;
-    while i < book::MOST_PROCESSES {
+    for i in 0..book::MOST_PROCESSES {
         let count = row[i];
         words[at + i] = book::wide(count.0);
-        i += 1;
     }
 }
 
@@ -200,11 +172,9 @@ pub fn put_matrix(entries: [Count; 256], words: &mut [u64], at: usize)
     requires { at + matrix_length ≤ length words.old }
     ensures { words.new ≡ sets words.old at (count_words matrix_length entries) }
 {
-    let mut i = 0;
-    while i < matrix::ENTRIES {
+    for i in 0..matrix::ENTRIES {
         let count = entries[i];
         words[at + i] = book::wide(count.0);
-        i += 1;
     }
 }
 

@@ -2,19 +2,21 @@
 use mathlib.Core.Path.{◌≡◌, refl, sym, ap, ◌∙◌}
 use mathlib.Core.Bool.{Bool, true, false, ◌&&◌}
 use mathlib.Core.List.{List}
-use Prim.Native.Nat.{ℕ, zero, suc, ◌≤◌}
+use Prim.Native.Nat.{ℕ, suc, ◌≤◌}
 use native.Mathlib.Omega.{arith}
 use borrow.Author.Tests.{eqb-true, leb-true}
 use lib.ListN.{length, take}
 use lib.Seq.{sets}
 use lib.Dec.{eqb, leb}
+use Rattle.std.specs.Prelude.{Ok, Err}
 use Rattle.book.specs.Lent.{Tables}
-use Rattle.book.specs.declared.WriteAnswer.TheVariants.{Length, Refused}
+use Rattle.book.specs.declared.Question.TheVariants.{Room}
+use Rattle.book.specs.Numbers.{by_number}
 use Rattle.book.specs.View.{sum}
-use Rattle.book.specs.InTurn.{ask}
+use Rattle.book.specs.InTurn.{ask, answer_with}
 use Rattle.book.specs.Questions.{size_question, length_question}
 use Rattle.book.specs.Check.{counts_question, contents_question, tables_question}
-use Rattle.book.specs.Write.{bytes_of, length_or, write_question, answer_to_write, bytes_written}
+use Rattle.book.specs.Write.{bytes_of, write_question, answer_to_write, bytes_written}
 use Rattle.book.specs.Fits.{BookFits}
 use Rattle.book.proofs.Questions.{then_refused, then_none, asked_yes, kept_refused}
 use Rattle.book.proofs.Counts.{counts_few}
@@ -23,10 +25,6 @@ use Rattle.book.proofs.Counts.{counts_few}
 both_yes : (k : ℕ) (a b : Bool) → ask (suc k) (a && b) ≡ 0 → (a ≡ true) × (b ≡ true)
 both_yes k true b h = (refl, asked_yes k b h)
 both_yes k false b h = absurd (omega arith)
-
-length_refused : (q long : ℕ) → (q ≡ 0 → ⊥) → length_or q long ≡ Refused q
-length_refused zero long h = absurd (h refl)
-length_refused (suc q) long h = refl
 
 module _ (t : Tables) where
   -- where no question refuses the tables, the rows of all processes lie in them
@@ -51,24 +49,23 @@ module _ (t : Tables) where
     fits_buffer _ = ask 17 (leb (length (bytes_of t)) (length out))
 
     -- a question of the tables fails
-    pub refused : {q : ℕ} → q ≡ tables_question t → (q ≡ 0 → ⊥)
-        → (Refused q ≡ answer_to_write t out) × (out ≡ bytes_written t out)
-    unfolding answer_to_write bytes_written write_question fits_buffer
+    pub refused : {q : ℕ} → tables_question t ≡ q → (tables_question t ≡ 0 → ⊥)
+        → (write_question t out ≡ q) × (out ≡ bytes_written t out)
+    unfolding bytes_written write_question fits_buffer
     refused {q} e f =
-        let first = then_refused (tables_question t) fits_buffer (λ z. f (e ∙ z)) in
-        let w : write_question t out ≡ q = first ∙ sym e in
-        (sym (rw w (length_refused q _ f)), sym (rw w (kept_refused q out _ f)))
+        let w : write_question t out ≡ tables_question t = then_refused (tables_question t) fits_buffer f in
+        (w ∙ e, sym (kept_refused (write_question t out) out _ (λ z. f (sym w ∙ z))))
 
     module _ (e : tables_question t ≡ 0) where
       -- question 17 fails
       pub full : leb (length (bytes_of t)) (length out) ≡ false
-          → (Refused 17 ≡ answer_to_write t out) × (out ≡ bytes_written t out)
-      unfolding answer_to_write bytes_written write_question
+          → (by_number {A = ℕ} (Err Room) ≡ answer_to_write t out) × (out ≡ bytes_written t out)
+      unfolding answer_to_write answer_with bytes_written write_question
       full h = rw (e, h) (refl, refl)
 
       -- none fails
       pub written : {size : ℕ} {out' : List ℕ} → leb (length (bytes_of t)) (length out) ≡ true
           → size ≡ length (bytes_of t) → out' ≡ sets out 0 (bytes_of t)
-          → (Length size ≡ answer_to_write t out) × (out' ≡ bytes_written t out)
-      unfolding answer_to_write bytes_written write_question
-      written h same w = rw (e, h) (ap Length same, w)
+          → (by_number {A = ℕ} (Ok size) ≡ answer_to_write t out) × (out' ≡ bytes_written t out)
+      unfolding answer_to_write answer_with bytes_written write_question
+      written h same w = rw (e, h) (ap Ok same, w)

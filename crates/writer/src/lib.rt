@@ -5,11 +5,12 @@ ghost use Rattle.std.proofs.lemmas.List.Edits.{sets};
 ghost use Rattle.book.specs.Tables.{partner_column};
 ghost use Rattle.book.specs.Lent.{lent};
 ghost use Rattle.book.specs.Accepted.{AreAccepted};
+ghost use Rattle.book.specs.Numbers.{by_number};
 ghost use Rattle.book.specs.Write.{bytes_of, answer_to_write, bytes_written};
 ghost use Rattle.book.specs.Fits.{RowsFit, BookFits};
 ghost use Rattle.writer.specs.Parts.{row_bytes, checkpoint_bytes, checkpoints_bytes, process_bytes};
 
-use book::{Counter, Shape, WriteAnswer};
+use book::{Counter, Question, Shape};
 
 // The k-th counter of a row of process j.
 fn nth_counter(table: &[Counter], j: usize, row: usize, k: usize) -> u64
@@ -27,10 +28,8 @@ fn row_size(table: &[Counter], n: usize, j: usize, row: usize) -> usize
     ensures upper_bound { result ≤ 150 }
 {
     let mut size = 0;
-    let mut k = 0;
-    while k < n - 1 {
+    for k in 0..n - 1 {
         size += varint::size_of(nth_counter(table, j, row, k));
-        k += 1;
     }
     size
 }
@@ -60,10 +59,8 @@ fn checkpoints_size(
     ensures upper_bound { result ≤ 300 * count }
 {
     let mut size = 0;
-    let mut r = 0;
-    while r < count {
+    for r in 0..count {
         size += checkpoint_size(sent, received, n, j, first + r);
-        r += 1;
     }
     size
 }
@@ -95,11 +92,9 @@ fn book_size(shape: Shape, sent: &[Counter], received: &[Counter]) -> usize
     let counts = shape.counts;
     let mut size = varint::size_of(n as u64);
     let mut first = 0;
-    let mut j = 0;
-    while j < n {
+    for j in 0..n {
         size += process_size(sent, received, n, j, first, counts[j]);
         first += counts[j];
-        j += 1;
     }
     size
 }
@@ -112,10 +107,8 @@ fn write_row(table: &[Counter], n: usize, j: usize, row: usize, out: &mut [u8], 
     ensures out_after { out.new ≡ sets out.old at (row_bytes n j row 0 table.now) }
 {
     let mut next = at;
-    let mut k = 0;
-    while k < n - 1 {
+    for k in 0..n - 1 {
         next = varint::put_number(nth_counter(table, j, row, k), out, next);
-        k += 1;
     }
     next
 }
@@ -158,10 +151,8 @@ fn write_checkpoints(
     ensures out_after { out.new ≡ sets out.old at (checkpoints_bytes n j first count sent.now received.now) }
 {
     let mut next = at;
-    let mut r = 0;
-    while r < count {
+    for r in 0..count {
         next = write_checkpoint(sent, received, n, j, first + r, out, next);
-        r += 1;
     }
     next
 }
@@ -199,11 +190,9 @@ fn write_book(shape: Shape, sent: &[Counter], received: &[Counter], out: &mut [u
     let counts = shape.counts;
     let mut next = varint::put_number(n as u64, out, 0);
     let mut first = 0;
-    let mut j = 0;
-    while j < n {
+    for j in 0..n {
         next = write_process(sent, received, n, j, first, counts[j], out, next);
         first += counts[j];
-        j += 1;
     }
     next
 }
@@ -221,17 +210,19 @@ fn has_room(shape: Shape, sent: &[Counter], received: &[Counter], room: usize) -
 
 // The tables' book written to the start of a buffer: how many bytes, or the first question that fails, the buffer then
 // unchanged. Bytes after the written ones are not touched.
-pub fn write(shape: Shape, sent: &[Counter], received: &[Counter], out: &mut [u8]) -> WriteAnswer
-    ensures answer { result ≡ answer_to_write (lent shape sent.now received.now) out.old }
+pub fn write(
+    shape: Shape,
+    sent: &[Counter],
+    received: &[Counter],
+    out: &mut [u8],
+) -> Result<usize, Question>
+    ensures answer { by_number result ≡ answer_to_write (lent shape sent.now received.now) out.old }
     ensures bytes { out.new ≡ bytes_written (lent shape sent.now received.now) out.old }
 {
-    let question = tables::question(shape, sent, received);
-    if question != 0 {
-        return WriteAnswer::Refused(question);
-    }
+    tables::check(shape, sent, received)?;
     if !has_room(shape, sent, received, out.len()) {
-        return WriteAnswer::Refused(17);
+        return Err(Question::Room);
     }
     let size = write_book(shape, sent, received, out);
-    WriteAnswer::Length(size)
+    Ok(size)
 }

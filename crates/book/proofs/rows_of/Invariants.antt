@@ -5,6 +5,3 @@ use Rattle.book.proofs.rows_of.Given as goal
 
 abbrev pub invariant-loop-j : goal.invariant-loop-j
 invariant-loop-j l = StartsFound l.initial.first l.counts l.first l.row l.j
-
-abbrev pub decreases-loop-j : goal.decreases-loop-j
-decreases-loop-j l = 16 - l.j

@@ -1,7 +1,6 @@
 -- `all_there` meets its contract. The invariant: every checkpoint so far is there.
 use mathlib.Core.Path.{◌≡◌}
 use mathlib.Core.Bool.{true}
-use Prim.Native.Nat.{◌-◌}
 use lib.ListN.{get_or}
 use lib.Dec.{ltb}
 use Rattle.lists.proofs.Before.{Before}
@@ -10,6 +9,3 @@ use Rattle.consistency.proofs.all_there.Given as goal
 
 abbrev pub invariant-loop-j : goal.invariant-loop-j
 invariant-loop-j l = Before 16 (λ i. is_there (ltb i l.n) (get_or l.counts i 0) (chosen l.set i) ≡ true) l.j
-
-abbrev pub decreases-loop-j : goal.decreases-loop-j
-decreases-loop-j l = 16 - l.j

@@ -1,5 +1,5 @@
 -- `column_question` meets its contract.
-use mathlib.Core.Path.{◌≡◌, sym, ◌∙◌}
+use mathlib.Core.Path.{◌≡◌, refl, sym, ◌∙◌}
 use mathlib.Core.Bool.{true}
 use Prim.Native.Nat.{◌≤◌}
 use native.Mathlib.Omega.{arith}
@@ -7,27 +7,31 @@ use borrow.Author.Rules.{rules}
 use Rattle.book.specs.Lent.{lent}
 use Rattle.book.specs.Names.{is_named}
 use Rattle.book.specs.Accepted.{AreAccepted}
+use Rattle.book.specs.declared.Question.TheVariants.{Named, Exists}
 use Rattle.book.proofs.Names.{named_in}
+use Rattle.book.proofs.Refusals.{refused_by, is_refused, is_accepted, hands_on, refuses, accepts}
 use Rattle.line_theory.proofs.Accepted.{accepted_size}
 use Rattle.consistency.proofs.Calls.{column_tables, column_unnamed, column_missing, column_asked}
 use Rattle.consistency.proofs.column_question.Goals as goal
 use Rattle.consistency.proofs.column_question.Goals.{Else-not-is_named}
 
-pub returns-then-question-ne0 : goal.returns-then-question-ne0
-returns-then-question-ne0 c =
+pub returns-in_err-check : goal.returns-in_err-check
+returns-in_err-check c =
     let a = c.args in
-    let question = c.question-question in
-    column_tables (lent a.shape a.sent.now a.received.now) a.j.0 a.r.0 question.result question.ensures c.if-question-ne0.true
+    let h = c.check.ensures in
+    let was = c.in_err-check.was in
+    hands_on _ c.in_err-check.field-0.0 tt c.from_residual.ensures.1 (λ f same. same)
+    (column_tables (lent a.shape a.sent.now a.received.now) a.j.0 a.r.0 (is_refused _ _ h was) ∙ refused_by _ _ h was)
 
 pub returns-then-not-is_named : goal.returns-then-not-is_named
 returns-then-not-is_named c =
     let a = c.args in
-    column_unnamed (lent a.shape a.sent.now a.received.now) a.j.0 a.r.0 (sym c.question-question.ensures ∙ c.if-question-ne0.false)
-    (sym c.is_named.ensures ∙ c.if-not-is_named.true)
+    refuses Named tt (column_unnamed (lent a.shape a.sent.now a.received.now) a.j.0 a.r.0
+    (is_accepted _ _ c.check.ensures c.in_ok-check.was) (sym c.is_named.ensures ∙ c.if-not-is_named.true))
 
 -- what is known once the tables have passed, and the process
 accepted : (c : Else-not-is_named) → let a = c.args in AreAccepted (lent a.shape a.sent.now a.received.now)
-accepted c = record { sixteen = search rules; passed = sym c.question-question.ensures ∙ c.if-question-ne0.false }
+accepted c = record { sixteen = search rules; passed = is_accepted _ _ c.check.ensures c.in_ok-check.was }
 
 named : (c : Else-not-is_named) → let a = c.args in is_named a.shape.n a.j.0 ≡ true
 named c = sym c.is_named.ensures ∙ c.if-not-is_named.false
@@ -53,12 +57,12 @@ pub returns-then-not-is_there : goal.returns-then-not-is_there
 returns-then-not-is_there c =
     let a = c.args in
     let at = (goal.at.returns-then-not-is_there c).Else-not-is_named in
-    column_missing (lent a.shape a.sent.now a.received.now) a.j.0 a.r.0 (accepted at).passed (named at)
-    (sym c.is_there.ensures ∙ c.if-not-is_there.true)
+    refuses Exists tt (column_missing (lent a.shape a.sent.now a.received.now) a.j.0 a.r.0 (accepted at).passed (named at)
+    (sym c.is_there.ensures ∙ c.if-not-is_there.true))
 
 pub returns : goal.returns
 returns c =
     let a = c.args in
     let at = (goal.at.returns c).Else-not-is_named in
-    column_asked (lent a.shape a.sent.now a.received.now) a.j.0 a.r.0 (accepted at).passed (named at)
-    (sym c.is_there.ensures ∙ c.if-not-is_there.false)
+    accepts (column_asked (lent a.shape a.sent.now a.received.now) a.j.0 a.r.0 (accepted at).passed (named at)
+    (sym c.is_there.ensures ∙ c.if-not-is_there.false)) refl

@@ -4,7 +4,7 @@ use native.Mathlib.Omega.{arith}
 use Rattle.book.specs.View.{R}
 use Rattle.line_theory.specs.Search.{newest}
 use Rattle.consistency.specs.Known.{counters}
-use Rattle.consistency.proofs.Permits.{permits_is, newest_none, newest_here, newest_back}
+use Rattle.consistency.proofs.Permits.{permits_none, newest_none, newest_here, newest_back}
 use Rattle.consistency.proofs.newest_permitted.Goals as goal
 
 pub loop-r-init : goal.loop-r-init
@@ -13,16 +13,15 @@ loop-r-init c = (omega arith, refl)
 pub test_row-requires : goal.test_row-requires
 test_row-requires c = record { whole = c.requires.whole; le_r = (omega arith, omega arith) }
 
-pub returns-then-is_permitted : goal.returns-then-is_permitted
-returns-then-is_permitted c = let a = c.args in
+pub returns-then-is_none : goal.returns-then-is_none
+returns-then-is_none c = let a = c.args in
     let rows : ℕ → ℕ → ℕ = λ s p. R a.rows.shape a.received.now (a.j.0 - 1) s p in
     let r = c.loop-r.r in
     sym
     (c.loop-r.invariant.1
     ∙ newest_here a.rows.shape.n rows (counters a.known) r (omega arith)
-    (sym (permits_is a.rows.shape.n (rows r) (counters a.known) c.test_row.result c.test_row.ensures)
-    ∙ sym c.is_permitted.ensures
-    ∙ c.if-is_permitted.true))
+    (permits_none a.rows.shape.n (rows r) (counters a.known) c.test_row.result c.test_row.ensures _ c.is_none.ensures
+    ∙ c.if-is_none.true))
 
 pub loop-r-preserved : goal.loop-r-preserved
 loop-r-preserved c = let a = c.args in
@@ -31,9 +30,8 @@ loop-r-preserved c = let a = c.args in
       omega arith,
       c.loop-r.invariant.1
           ∙ newest_back a.rows.shape.n rows (counters a.known) r (omega arith)
-          (sym (permits_is a.rows.shape.n (rows r) (counters a.known) c.test_row.result c.test_row.ensures)
-          ∙ sym c.is_permitted.ensures
-          ∙ c.if-is_permitted.false),
+          (permits_none a.rows.shape.n (rows r) (counters a.known) c.test_row.result c.test_row.ensures _ c.is_none.ensures
+          ∙ c.if-is_none.false),
     )
 
 pub returns : goal.returns

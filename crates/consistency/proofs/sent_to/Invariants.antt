@@ -10,6 +10,3 @@ use Rattle.consistency.proofs.sent_to.Given as goal
 abbrev pub invariant-loop-p : goal.invariant-loop-p
 invariant-loop-p l =
     Filled (tally 0) l.initial.known l.n (λ q. tally (counter_from l.sent (get_or l.first q 0) (chosen l.set q) (l.j.0 - 1))) l.known l.p
-
-abbrev pub decreases-loop-p : goal.decreases-loop-p
-decreases-loop-p l = l.n - l.p

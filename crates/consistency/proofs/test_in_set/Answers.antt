@@ -7,8 +7,7 @@ use Rattle.line_theory.proofs.Accepted.{rows_few}
 use Rattle.line_theory.specs.OfTables.{view_of}
 use Rattle.line_theory.specs.Search.{sent_to}
 use Rattle.consistency.specs.Set.{chosen}
-use Rattle.consistency.specs.Known.{counters}
-use Rattle.consistency.specs.Given.{permission_of}
+use Rattle.consistency.specs.Known.{counters, named_as}
 use Rattle.consistency.proofs.Calls.{sent_whole, received_whole}
 use Rattle.consistency.proofs.Permits.{offending_ext}
 use Rattle.consistency.proofs.test_in_set.Goals as goal
@@ -38,5 +37,5 @@ returns c = let a = c.args in
     let v = view_of (lent a.rows.shape a.sent.now a.received.now) in
     let j = a.j.0 - 1 in
     c.test_row.ensures
-    ∙ ap permission_of (offending_ext v.n (v.R j (chosen a.set j)) (counters c.sent_to-known.result) (sent_to v (chosen a.set) j)
+    ∙ ap named_as (offending_ext v.n (v.R j (chosen a.set j)) (counters c.sent_to-known.result) (sent_to v (chosen a.set) j)
     c.sent_to-known.ensures)

@@ -1,5 +1,4 @@
 -- `test_pairs` meets its contract. The invariant: nobody offends any checkpoint so far.
-use Prim.Native.Nat.{◌-◌}
 use Rattle.book.specs.Lent.{lent}
 use Rattle.line_theory.specs.OfTables.{view_of}
 use Rattle.lists.proofs.Before.{Before}
@@ -11,6 +10,3 @@ abbrev pub invariant-loop-j : goal.invariant-loop-j
 invariant-loop-j l =
     let v = view_of (lent l.rows.shape l.sent l.received) in
     Before l.n (NoneOffends v (chosen l.set)) l.j
-
-abbrev pub decreases-loop-j : goal.decreases-loop-j
-decreases-loop-j l = l.n - l.j

@@ -1,4 +1,5 @@
-use mathlib.Core.Path.{sym, ◌∙◌}
+use mathlib.Core.Path.{sym, ap, ◌∙◌}
+use mathlib.Core.Bool.{not}
 use Prim.Native.Nat.{ℕ, ◌+◌, ◌-◌}
 use native.Mathlib.Omega.{arith}
 use Rattle.book.specs.View.{R}
@@ -21,14 +22,14 @@ overflow_add-last c =
 pub test_row-requires : goal.test_row-requires
 test_row-requires c = record { whole = c.requires.whole; le_r = (omega arith, omega arith) }
 
-pub returns-then-not-is_permitted : goal.returns-then-not-is_permitted
-returns-then-not-is_permitted c =
+pub returns-then-is_some : goal.returns-then-is_some
+returns-then-is_some c =
     let a = c.args in
     let rows : ℕ → ℕ → ℕ = λ r p. R a.rows.shape a.received.now (a.j.0 - 1) r p in
     let last = c.loop-last.last in
     found_up a.rows.shape.n _ rows (counters a.known) c.requires.rises last c.loop-last.invariant.1 (omega arith)
-    (sym (c.is_permitted.ensures ∙ permits_is a.rows.shape.n (rows (last + 1)) (counters a.known) c.test_row.result c.test_row.ensures)
-    ∙ c.if-not-is_permitted.true)
+    (permits_is a.rows.shape.n (rows (last + 1)) (counters a.known) c.test_row.result c.test_row.ensures
+    ∙ ap not (sym c.is_some.ensures ∙ c.if-is_some.true))
 
 pub overflow_add-last-in-loop-last : goal.overflow_add-last-in-loop-last
 overflow_add-last-in-loop-last c =
@@ -43,8 +44,8 @@ loop-last-preserved c =
     let last = c.loop-last.last in (
       omega arith,
       newest_here a.rows.shape.n rows (counters a.known) (last + 1) (omega arith)
-          (sym (c.is_permitted.ensures ∙ permits_is a.rows.shape.n (rows (last + 1)) (counters a.known) c.test_row.result c.test_row.ensures)
-          ∙ c.if-not-is_permitted.false),
+          (permits_is a.rows.shape.n (rows (last + 1)) (counters a.known) c.test_row.result c.test_row.ensures
+          ∙ ap not (sym c.is_some.ensures ∙ c.if-is_some.false)),
     )
 
 pub returns : goal.returns

@@ -1,6 +1,5 @@
 -- `flags_of` meets its contract. The invariant: the flags so far say who must step back.
 use mathlib.Core.Bool.{false}
-use Prim.Native.Nat.{◌-◌}
 use Rattle.lists.proofs.Filling.{Filled}
 use Rattle.finder.specs.Steps.{row_of, by_row, must_step_back}
 use Rattle.finder.proofs.flags_of.Given as goal
@@ -8,6 +7,3 @@ use Rattle.finder.proofs.flags_of.Given as goal
 abbrev pub invariant-loop-j : goal.invariant-loop-j
 invariant-loop-j l =
     Filled false l.initial.flags l.n (must_step_back (by_row l.n l.sent l.received) (row_of l.at)) l.flags l.j
-
-abbrev pub decreases-loop-j : goal.decreases-loop-j
-decreases-loop-j l = l.n - l.j

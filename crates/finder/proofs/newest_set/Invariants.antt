@@ -1,5 +1,4 @@
 -- `newest_set` meets its contract. The invariant: the numbers so far are the counts.
-use Prim.Native.Nat.{◌-◌}
 use lib.ListN.{get_or}
 use Rattle.lists.proofs.Filling.{Filled}
 use Rattle.book.proofs.Values.{checkpoint}
@@ -7,6 +6,3 @@ use Rattle.finder.proofs.newest_set.Given as goal
 
 abbrev pub invariant-loop-j : goal.invariant-loop-j
 invariant-loop-j l = Filled (checkpoint 0) l.initial.set 16 (λ i. checkpoint (get_or l.counts i 0)) l.set l.j
-
-abbrev pub decreases-loop-j : goal.decreases-loop-j
-decreases-loop-j l = 16 - l.j

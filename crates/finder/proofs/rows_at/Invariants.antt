@@ -8,6 +8,3 @@ use Rattle.finder.proofs.rows_at.Given as goal
 abbrev pub invariant-loop-j : goal.invariant-loop-j
 invariant-loop-j l =
     Filled 0 l.initial.at l.n (λ i. get_or l.first i 0 + (chosen l.set i - 1)) l.at l.j
-
-abbrev pub decreases-loop-j : goal.decreases-loop-j
-decreases-loop-j l = l.n - l.j

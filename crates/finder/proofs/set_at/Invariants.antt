@@ -9,6 +9,3 @@ use Rattle.finder.proofs.set_at.Given as goal
 abbrev pub invariant-loop-j : goal.invariant-loop-j
 invariant-loop-j l =
     Filled (checkpoint 0) l.initial.set l.n (λ i. checkpoint (row_of l.at i - get_or l.first i 0 + 1)) l.set l.j
-
-abbrev pub decreases-loop-j : goal.decreases-loop-j
-decreases-loop-j l = l.n - l.j

@@ -1,17 +1,17 @@
 -- `accepted_event` meets its contract.
+use Rattle.std.specs.Prelude.{Some}
 use mathlib.Core.Path.{◌≡◌}
 use mathlib.Core.List.{List}
 use Prim.Native.Nat.{ℕ, ◌≤◌}
 use native.Mathlib.Omega.{arith}
 use borrow.Author.Rules.{rules}
-use Rattle.varint.specs.declared.Numeral.TheVariants.{Number}
 use Rattle.varint.specs.Number.{read_number}
 use Rattle.varint.proofs.Reading.{read_next}
 use Rattle.journal.specs.Bounds.{journal_groups, journal_largest}
 use Rattle.journal.proofs.Short.{event_bytes, checkpoint_stands, sending_stands, receipt_stands}
 use Rattle.journal.proofs.accepted_event.Goals as goal
 
-small : (s : List ℕ) (at v : ℕ) {next : ℕ} → read_number journal_groups journal_largest s at ≡ Number v next → v ≤ journal_largest
+small : (s : List ℕ) (at v : ℕ) {next : ℕ} → read_number journal_groups journal_largest s at ≡ Some (v, next) → v ≤ journal_largest
 small s at v {next} read = (read_next journal_groups journal_largest s at v next read).2
 
 pub bounds-s-at : goal.bounds-s-at

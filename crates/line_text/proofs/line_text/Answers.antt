@@ -1,54 +1,42 @@
--- `line_text` meets its contract: by whether the read is accepted.
-use mathlib.Core.Path.{◌≡◌, ap, ◌∙◌}
+-- `line_text` meets its contract: by what the search of the book says.
+use mathlib.Core.Path.{◌≡◌, ap, subst, ◌∙◌}
 use mathlib.Core.List.{List}
 use Prim.Native.Nat.{ℕ}
 use lib.ListN.{take}
+use Rattle.std.specs.Prelude.{Result}
+use Rattle.book.specs.declared.Question.{Question}
+use Rattle.line_text.specs.declared.Text.{Text}
+use Rattle.line_text.specs.Parts.{Holds, Says}
 use Rattle.line_text.specs.Put.{put_answer, text_put}
 use Rattle.line_text.specs.Line.{line_text}
-use Rattle.line_text.proofs.Lines.{refused_line, few_read, accepted_line}
 use Rattle.line_text.proofs.line_text.Goals as goal
 
-pub search_text-requires : goal.search_text-requires
-search_text-requires c = let a = c.args in
-    let read = c.read-read in
-    few_read a.bytes.now _ _ read.result.answer c.table_inside-sent.ensures c.table_inside-received.ensures read.ensures.answer
-    read.result.shape
-    c.in-Accepted.is
-    read.ensures.shape
+pub put_text-requires : goal.put_text-requires
+put_text-requires c =
+    let text : Holds c.in-Ok.found (line_text c.args.bytes.now) =
+    subst (λ (r : Result Text Question). Says r (line_text c.args.bytes.now)) c.in-Ok.is c.search_text.ensures in
+    text.inside
 
-pub returns-in-Refused : goal.returns-in-Refused
-returns-in-Refused c =
+pub returns-in-Ok : goal.returns-in-Ok
+returns-in-Ok c =
     let a = c.args in
-    let read = c.read-read in
     let put = c.put_text in
-    let text = c.refused_text in
-    let e : take text.result.len text.result.bytes ≡ line_text a.bytes.now =
-    refused_line a.bytes.now _ _ read.result.answer c.table_inside-sent.ensures c.table_inside-received.ensures read.ensures.answer
-    text.result
-    c.in-Refused.is
-    text.ensures in
+    let text : Holds c.in-Ok.found (line_text a.bytes.now) =
+    subst (λ (r : Result Text Question). Says r (line_text a.bytes.now)) c.in-Ok.is c.search_text.ensures in
     record {
-      answer = put.ensures.answer ∙ ap (λ (t : List ℕ). put_answer t a.out.now) e;
-      bytes = put.ensures.bytes ∙ ap (λ (t : List ℕ). text_put t a.out.now) e;
+      answer = put.ensures.answer ∙ ap (λ (t : List ℕ). put_answer t a.out.now) text.first;
+      bytes = put.ensures.bytes ∙ ap (λ (t : List ℕ). text_put t a.out.now) text.first;
     }
 
-pub returns-in-Accepted : goal.returns-in-Accepted
-returns-in-Accepted c =
+pub put_text-requires-in-Err : goal.put_text-requires-in-Err
+put_text-requires-in-Err c = c.refused_text.ensures.inside
+
+pub returns-in-Err : goal.returns-in-Err
+returns-in-Err c =
     let a = c.args in
-    let read = c.read-read in
-    let put = c.put_text-in-Accepted in
-    let text = c.search_text in
-    let e : take text.result.len text.result.bytes ≡ line_text a.bytes.now =
-    accepted_line a.bytes.now _ _ read.result.answer c.table_inside-sent.ensures c.table_inside-received.ensures read.ensures.answer
-    read.result.shape
-    c.in-Accepted.is
-    read.ensures.shape
-    _
-    _
-    text.result
-    read.ensures.sent
-    read.ensures.received
-    text.ensures in
+    let put = c.put_text-in-Err in
+    let e : take c.refused_text.result.len c.refused_text.result.bytes ≡ line_text a.bytes.now =
+    c.refused_text.ensures.first ∙ subst (λ (r : Result Text Question). Says r (line_text a.bytes.now)) c.in-Err.is c.search_text.ensures in
     record {
       answer = put.ensures.answer ∙ ap (λ (t : List ℕ). put_answer t a.out.now) e;
       bytes = put.ensures.bytes ∙ ap (λ (t : List ℕ). text_put t a.out.now) e;

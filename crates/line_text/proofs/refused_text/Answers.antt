@@ -7,4 +7,4 @@ use Rattle.line_text.proofs.refused_text.Goals as goal
 
 pub returns : goal.returns
 unfolding refused_text
-returns c = holds_grown c.empty.ensures (refused_most c.args.question) c.labelled.ensures
+returns c = rw (← c.number.ensures) (holds_grown c.empty.ensures (refused_most c.number.result) c.labelled.ensures)

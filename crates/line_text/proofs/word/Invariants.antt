@@ -1,12 +1,7 @@
 -- `line_text::word` meets its contract. The invariant: the first i bytes of the word are behind.
 -- Assumes nothing.
-use Prim.Native.Nat.{◌-◌}
-use lib.ListN.{length}
 use Rattle.line_text.proofs.Grows.{Worded}
 use Rattle.line_text.proofs.word.Given as goal
 
 abbrev pub invariant-loop-i : goal.invariant-loop-i
 invariant-loop-i l = Worded l.initial.next l.w l.next l.i
-
-abbrev pub decreases-loop-i : goal.decreases-loop-i
-decreases-loop-i l = length l.w - l.i

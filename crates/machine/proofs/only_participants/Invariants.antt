@@ -1,7 +1,6 @@
 -- `only_participants` meets its contract. The invariant: who is flagged so far is a participant.
 use mathlib.Core.Path.{◌≡◌}
 use mathlib.Core.Bool.{true, not, ◌||◌}
-use Prim.Native.Nat.{◌-◌}
 use Rattle.lists.proofs.Before.{Before}
 use Rattle.machine.specs.Named.{is_participant}
 use Rattle.machine.specs.Flags.{flag}
@@ -9,6 +8,3 @@ use Rattle.machine.proofs.only_participants.Given as goal
 
 abbrev pub invariant-loop-p : goal.invariant-loop-p
 invariant-loop-p l = Before 16 (λ k. (not (flag l.flags k) || is_participant l.n l.own k) ≡ true) l.p
-
-abbrev pub decreases-loop-p : goal.decreases-loop-p
-decreases-loop-p l = 16 - l.p

@@ -25,7 +25,7 @@ pub returns : goal.returns
 returns c = let a = c.args in
     let told = c.is_named in
     let second = c.is_named-2 in
-    sym (and_rest (is_named a.n a.me.0) (is_named a.n a.initiator.0 && not (eqb a.me.0 a.initiator.0))
+    c.ne.ensures ∙ sym (and_rest (is_named a.n a.me.0) (is_named a.n a.initiator.0 && not (eqb a.me.0 a.initiator.0))
     (sym told.ensures ∙ c.if-not-is_named.false)
     ∙ and_rest (is_named a.n a.initiator.0) (not (eqb a.me.0 a.initiator.0))
     (sym second.ensures ∙ c.if-not-is_named-2.false))

@@ -1,5 +1,4 @@
 -- `put_pairs` meets its contract. The invariant: the bytes of the processes so far are written.
-use Prim.Native.Nat.{◌-◌}
 use Rattle.consistency.specs.Known.{counters}
 use Rattle.mail.proofs.Turns.{Put}
 use Rattle.mail.proofs.Pairs.{pair_bytes}
@@ -7,6 +6,3 @@ use Rattle.mail.proofs.put_pairs.Given as goal
 
 abbrev pub invariant-loop-p : goal.invariant-loop-p
 invariant-loop-p l = Put (pair_bytes (counters l.news)) l.initial.out l.at l.p l.out l.next
-
-abbrev pub decreases-loop-p : goal.decreases-loop-p
-decreases-loop-p l = 16 - l.p

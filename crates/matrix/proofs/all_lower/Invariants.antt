@@ -9,6 +9,3 @@ use Rattle.matrix.proofs.all_lower.Given as goal
 
 abbrev pub invariant-loop-p : goal.invariant-loop-p
 invariant-loop-p l = Before 16 (λ k. lower (counters l.news k) (counters l.held k) ≡ true) l.p
-
-abbrev pub decreases-loop-p : goal.decreases-loop-p
-decreases-loop-p l = 16 - l.p

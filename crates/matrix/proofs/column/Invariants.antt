@@ -7,6 +7,3 @@ use Rattle.matrix.proofs.column.Given as goal
 
 abbrev pub invariant-loop-j : goal.invariant-loop-j
 invariant-loop-j l = Filled (tally 0) l.initial.entries 16 (λ k. tally (counters l.matrix (k * 16 + l.across))) l.entries l.j
-
-abbrev pub decreases-loop-j : goal.decreases-loop-j
-decreases-loop-j l = 16 - l.j

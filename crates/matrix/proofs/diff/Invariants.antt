@@ -8,6 +8,3 @@ use Rattle.matrix.proofs.diff.Given as goal
 
 abbrev pub invariant-loop-p : goal.invariant-loop-p
 invariant-loop-p l = Filled (tally 0) l.initial.news 16 (λ k. tally (differing (counters l.now k) (counters l.held k))) l.news l.p
-
-abbrev pub decreases-loop-p : goal.decreases-loop-p
-decreases-loop-p l = 16 - l.p

@@ -1,9 +1,9 @@
 -- `differing` meets its contract.
-use borrow.Author.Tests.{eq-eqb, ne_eqb}
+use mathlib.Core.Path.{sym, ◌∙◌}
 use Rattle.matrix.proofs.differing.Goals as goal
 
-pub returns-then-now-held : goal.returns-then-now-held
-returns-then-now-held c = rw (eq-eqb c.args.now.0 c.args.held.0 c.if-now-held.true)
+pub returns-then-eq : goal.returns-then-eq
+returns-then-eq c = rw (sym c.eq.ensures ∙ c.if-eq.true)
 
-pub returns-else-now-held : goal.returns-else-now-held
-returns-else-now-held c = rw (ne_eqb c.args.now.0 c.args.held.0 c.if-now-held.false)
+pub returns-else-eq : goal.returns-else-eq
+returns-else-eq c = rw (sym c.eq.ensures ∙ c.if-eq.false)

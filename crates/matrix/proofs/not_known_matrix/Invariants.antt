@@ -7,6 +7,3 @@ use Rattle.matrix.proofs.not_known_matrix.Given as goal
 
 abbrev pub invariant-loop-i : goal.invariant-loop-i
 invariant-loop-i l = Filled (tally 0) l.initial.entries 256 (λ k. tally (not_known_at l.n (k / 16) (k % 16))) l.entries l.i
-
-abbrev pub decreases-loop-i : goal.decreases-loop-i
-decreases-loop-i l = 256 - l.i

@@ -7,6 +7,3 @@ use Rattle.matrix.proofs.not_known_row.Given as goal
 
 abbrev pub invariant-loop-p : goal.invariant-loop-p
 invariant-loop-p l = Filled (tally 0) l.initial.entries 16 (λ k. tally (not_known_at l.n l.down k)) l.entries l.p
-
-abbrev pub decreases-loop-p : goal.decreases-loop-p
-decreases-loop-p l = 16 - l.p

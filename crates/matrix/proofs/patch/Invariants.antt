@@ -8,6 +8,3 @@ use Rattle.matrix.proofs.patch.Given as goal
 
 abbrev pub invariant-loop-p : goal.invariant-loop-p
 invariant-loop-p l = Filled (tally 0) l.initial.next 16 (λ k. tally (changed (counters l.held k) (counters l.news k))) l.next l.p
-
-abbrev pub decreases-loop-p : goal.decreases-loop-p
-decreases-loop-p l = 16 - l.p

@@ -7,6 +7,3 @@ use Rattle.matrix.proofs.row.Given as goal
 
 abbrev pub invariant-loop-p : goal.invariant-loop-p
 invariant-loop-p l = Filled (tally 0) l.initial.entries 16 (λ k. tally (counters l.matrix (l.first + k))) l.entries l.p
-
-abbrev pub decreases-loop-p : goal.decreases-loop-p
-decreases-loop-p l = 16 - l.p

@@ -7,6 +7,3 @@ use Rattle.matrix.proofs.with_row.Given as goal
 
 abbrev pub invariant-loop-p : goal.invariant-loop-p
 invariant-loop-p l = Filled (tally 0) l.initial.next 256 (row_put l.initial.next l.entries l.first) l.next (l.first + l.p)
-
-abbrev pub decreases-loop-p : goal.decreases-loop-p
-decreases-loop-p l = 16 - l.p

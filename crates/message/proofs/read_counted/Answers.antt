@@ -2,25 +2,26 @@ use mathlib.Core.Path.{refl, sym, ◌∙◌}
 use native.Mathlib.Omega.{arith}
 use Rattle.lists.specs.Over.{tab_from}
 use Rattle.matrix.specs.Matrix.{as_row}
-use Rattle.message.proofs.PairLoop.{pair_in, sofar_begun, sofar_short, sofar_half, sofar_refused, sofar_more, sofar_ended}
+use Rattle.message.proofs.PairLoop.{pair_in, sofar_begun, sofar_short, sofar_half, sofar_refused, sofar_more, sofar_over, sofar_ended}
 use Rattle.message.proofs.read_counted.Goals as goal
 
 pub loop-k-init : goal.loop-k-init
 unfolding as_row tab_from
 loop-k-init c = let a = c.args in sofar_begun a.n a.end.0 a.s.now a.at a.count _ refl refl
 
-pub returns-in_default : goal.returns-in_default
-returns-in_default c = sofar_short _ _ _ _ _ _ _ _ _ c.loop-k.invariant c.loop-k-test.true (sym c.in_default.ensures)
+pub returns-in_err-process : goal.returns-in_err-process
+returns-in_err-process c = c.from_residual.ensures ∙ sofar_short _ _ _ _ _ _ _ _ _ c.loop-k.invariant c.loop-k-test.true
+    (sym c.read_number.ensures ∙ c.in_err-process.was)
 
-pub returns-in_default-read_number : goal.returns-in_default-read_number
-returns-in_default-read_number c = sofar_half _ _ _ _ _ _ _ _ _ c.loop-k.invariant c.loop-k-test.true _ _
-    (sym c.in-Number.ensures)
-    (sym c.in_default-read_number.ensures)
+pub returns-in_err-counter : goal.returns-in_err-counter
+returns-in_err-counter c = c.from_residual-in_err-counter.ensures ∙ sofar_half _ _ _ _ _ _ _ _ _ c.loop-k.invariant c.loop-k-test.true _ _
+    (sym c.read_number.ensures ∙ c.in_ok-process.was)
+    (sym c.read_number-in-loop-k.ensures ∙ c.in_err-counter.was)
 
 pub returns-then-not-pair_formed : goal.returns-then-not-pair_formed
 returns-then-not-pair_formed c = sofar_refused _ _ _ _ _ _ _ _ _ c.loop-k.invariant c.loop-k-test.true _ _
-    (sym c.in-Number.ensures) _ _
-    (sym c.in-Number-read_number.ensures)
+    (sym c.read_number.ensures ∙ c.in_ok-process.was) _ _
+    (sym c.read_number-in-loop-k.ensures ∙ c.in_ok-counter.was)
     (sym c.pair_formed.ensures ∙ c.if-not-pair_formed.true)
 
 pub overflow_sub-place : goal.overflow_sub-place
@@ -39,9 +40,12 @@ bounds-news-place c = let p = pair_in _ _ _ _ _ (sym c.pair_formed.ensures ∙ c
 
 pub loop-k-preserved : goal.loop-k-preserved
 loop-k-preserved c = sofar_more _ _ _ _ _ _ _ _ _ c.loop-k.invariant c.loop-k-test.true _ _
-    (sym c.in-Number.ensures) _ _
-    (sym c.in-Number-read_number.ensures)
+    (sym c.read_number.ensures ∙ c.in_ok-process.was) _ _
+    (sym c.read_number-in-loop-k.ensures ∙ c.in_ok-counter.was)
     (sym c.pair_formed.ensures ∙ c.if-not-pair_formed.false) _ c.entry.ensures
 
+pub returns-then-next-s : goal.returns-then-next-s
+returns-then-next-s c = sofar_over _ _ _ _ _ _ _ _ _ c.loop-k.invariant c.loop-k-test.false c.if-next-s.true
+
 pub returns : goal.returns
-returns c = sofar_ended _ _ _ _ _ _ _ _ _ c.loop-k.invariant c.loop-k-test.false
+returns c = sofar_ended _ _ _ _ _ _ _ _ _ c.loop-k.invariant c.loop-k-test.false c.if-next-s.false

@@ -1,10 +1,6 @@
 -- `read_counted` meets its contract. The invariant: what is left to ask is asked of the numbers that follow.
-use Prim.Native.Nat.{◌-◌}
 use Rattle.message.proofs.PairLoop.{Sofar}
 use Rattle.message.proofs.read_counted.Given as goal
 
 abbrev pub invariant-loop-k : goal.invariant-loop-k
 invariant-loop-k l = Sofar l.n l.end.0 l.s l.at l.count l.news l.last l.next l.k
-
-abbrev pub decreases-loop-k : goal.decreases-loop-k
-decreases-loop-k l = l.count - l.k

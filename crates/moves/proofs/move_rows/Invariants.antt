@@ -1,11 +1,7 @@
 -- `move_rows` meets its contract. The invariant: the kept rows so far stand at the start of the table, and take no more room than
 -- the processes so far had.
-use Prim.Native.Nat.{◌-◌}
 use Rattle.moves.proofs.AllTurns.{AllMoved}
 use Rattle.moves.proofs.move_rows.Given as goal
 
 abbrev pub invariant-loop-j : goal.invariant-loop-j
 invariant-loop-j l = AllMoved l.initial.table l.off l.line l.kept l.n l.first l.table l.to l.j
-
-abbrev pub decreases-loop-j : goal.decreases-loop-j
-decreases-loop-j l = l.n - l.j

@@ -10,6 +10,3 @@ use Rattle.plans.proofs.kept_from.Given as goal
 abbrev pub invariant-loop-j : goal.invariant-loop-j
 invariant-loop-j l =
     Filled 0 l.initial.kept l.n (λ i. pick (restarts l.purpose) 1 (get_or l.counts i 0 - (chosen l.line i - 1))) l.kept l.j
-
-abbrev pub decreases-loop-j : goal.decreases-loop-j
-decreases-loop-j l = l.n - l.j

@@ -11,6 +11,3 @@ abbrev pub invariant-loop-j : goal.invariant-loop-j
 invariant-loop-j l =
     Filled 0 l.initial.before l.n (λ i. chosen l.line i - 1) l.before l.j
     × Filled 0 l.initial.after l.n (λ i. pick (restarts l.purpose) (get_or l.counts i 0 - chosen l.line i) 0) l.after l.j
-
-abbrev pub decreases-loop-j : goal.decreases-loop-j
-decreases-loop-j l = l.n - l.j

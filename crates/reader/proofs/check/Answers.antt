@@ -1,17 +1,19 @@
 -- `reader::check` meets its contract: questions 1 and 2, then those along the book.
-use Rattle.reader.proofs.ReadTurns.{sizes_question_lem, sizes_shape, book_question_lem, book_shape}
+use mathlib.Core.Path.{◌∙◌}
+use Rattle.book.specs.Read.{book_read}
+use Rattle.book.specs.Tables.{shape_of}
+use Rattle.book.proofs.Refusals.{refused_by, is_refused, is_accepted, hands_on}
+use Rattle.reader.proofs.ReadTurns.{sizes_refused, book_answer}
 use Rattle.reader.proofs.check.Goals as goal
 
-pub returns-then-question-ne0 : goal.returns-then-question-ne0
-returns-then-question-ne0 c = let a = c.args in
-    let asked = c.sizes_question-question.ensures in record {
-      question = sizes_question_lem a.bytes.now a.sent.now a.received.now _ asked c.if-question-ne0.true _ c.refused.ensures;
-      shape = sizes_shape a.bytes.now a.sent.now a.received.now _ asked c.if-question-ne0.true _ c.refused.ensures;
-    }
+pub returns-in_err-sizes_question : goal.returns-in_err-sizes_question
+returns-in_err-sizes_question c = let a = c.args in
+    let h = c.sizes_question.ensures in
+    let was = c.in_err-sizes_question.was in
+    hands_on _ c.in_err-sizes_question.field-0.0 (shape_of (book_read a.bytes.now)) c.from_residual.ensures.1 (λ f same. same)
+    (sizes_refused a.bytes.now a.sent.now a.received.now (is_refused _ _ h was) ∙ refused_by _ _ h was)
 
 pub returns : goal.returns
 returns c = let a = c.args in
-    let asked = c.sizes_question-question.ensures in record {
-      question = book_question_lem a.bytes.now a.sent.now a.received.now _ asked c.if-question-ne0.false _ _ _ c.take_book.ensures;
-      shape = book_shape a.bytes.now a.sent.now a.received.now _ asked c.if-question-ne0.false _ _ _ c.take_book.ensures;
-    }
+    book_answer a.bytes.now a.sent.now a.received.now (is_accepted _ _ c.sizes_question.ensures c.in_ok-sizes_question.was) _ _ _
+    c.take_book.ensures

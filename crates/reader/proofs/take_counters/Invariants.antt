@@ -1,10 +1,6 @@
 -- `reader::take_counters` meets its contract. The invariant: the counters passed stand in their columns.
-use Prim.Native.Nat.{◌-◌}
 use Rattle.reader.proofs.CounterLoop.{Sofar}
 use Rattle.reader.proofs.take_counters.Given as goal
 
 abbrev pub invariant-loop-k : goal.invariant-loop-k
 invariant-loop-k l = Sofar l.oldest l.zeros l.n l.j l.start l.initial.table l.s l.at l.next l.k l.table
-
-abbrev pub decreases-loop-k : goal.decreases-loop-k
-decreases-loop-k l = l.n - 1 - l.k

@@ -1,22 +1,23 @@
-use mathlib.Core.Path.{sym, subst, ◌∙◌}
-use mathlib.Core.Path.{◌≡◌}
+use mathlib.Core.Path.{◌≡◌, refl, sym, subst, ◌∙◌}
 use Prim.Native.Nat.{ℕ, ◌≤◌}
 use native.Mathlib.Omega.{arith}
 use Rattle.book.specs.Bounds.{most_processes}
+use Rattle.book.specs.declared.Question.TheVariants.{Number, ListFormed}
+use Rattle.book.proofs.Refusals.{refused_by, is_refused, is_accepted, hands_on, refuses, accepts}
 use Rattle.resend.specs.Questions.{entry_question}
-use Rattle.resend_reader.specs.Parts.{EntryFound}
+use Rattle.resend_reader.specs.Parts.{EntryFound, entries_from}
 use Rattle.resend_reader.proofs.Formed.{entry_names}
-use Rattle.resend_reader.proofs.EntryLoop.{refused_by, sofar_begun, sofar_short, sofar_refused, sofar_more, sofar_over, sofar_ended}
+use Rattle.resend_reader.proofs.EntryLoop.{sofar_begun, sofar_short, sofar_refused, sofar_more, sofar_over, sofar_ended}
 use Rattle.resend_reader.proofs.read_entries.Goals as goal
 
 pub loop-k-init : goal.loop-k-init
 loop-k-init c = sofar_begun _ _ _ _
 
 pub returns-in_default : goal.returns-in_default
-returns-in_default c = refused_by _ _ _ _ 3 _
+returns-in_default c =
+    refuses Number _
     (sofar_short _ _ _ _ _ _ _ _ _ _ c.loop-k.invariant c.loop-k-test.true
     (subst (EntryFound _ _) c.in_default.is c.read_entry.ensures))
-    (λ z. absurd (omega arith)) c.refused.ensures
 
 -- an entry that passes names two processes
 named : (n s r sender receiver first last : ℕ) {question : ℕ} → n ≤ most_processes
@@ -26,50 +27,53 @@ named n s r sender receiver first last few told passed =
     let p = entry_names n s r sender receiver first last (sym told ∙ passed) in
     (p.0, omega arith, p.2, omega arith)
 
-pub returns-then-question-ne0 : goal.returns-then-question-ne0
-returns-then-question-ne0 c = refused_by _ _ _ _ _ _
-    (sofar_refused _ _ _ _ _ _ _ _ _ _ c.loop-k.invariant c.loop-k-test.true _ _ c.in-Found.ensures _
-    c.entry_question-question.ensures c.if-question-ne0.true)
-    c.if-question-ne0.true c.refused-then-question-ne0.ensures
+pub returns-in_err-entry_question : goal.returns-in_err-entry_question
+returns-in_err-entry_question c = let a = c.args in
+    let h = c.entry_question.ensures in
+    let was = c.in_err-entry_question.was in
+    hands_on _ c.in_err-entry_question.field-0.0 (entries_from a.s.now a.at) c.from_residual.ensures.1 (λ f same. same)
+    (sofar_refused _ _ _ _ _ _ _ _ _ _ c.loop-k.invariant c.loop-k-test.true _ _ c.in-Some.ensures _ refl (is_refused _ _ h was)
+    ∙ refused_by _ _ h was)
 
 pub overflow_sub-place : goal.overflow_sub-place
-overflow_sub-place c = (named _ _ _ _ _ _ _ c.requires c.entry_question-question.ensures c.if-question-ne0.false).0
+overflow_sub-place c = (named _ _ _ _ _ _ _ c.requires refl (is_accepted _ _ c.entry_question.ensures c.in_ok-entry_question.was)).0
 
 pub overflow_mul-place : goal.overflow_mul-place
-overflow_mul-place c = let p = named _ _ _ _ _ _ _ c.requires c.entry_question-question.ensures c.if-question-ne0.false in omega arith
+overflow_mul-place c = let p = named _ _ _ _ _ _ _ c.requires refl (is_accepted _ _ c.entry_question.ensures c.in_ok-entry_question.was) in omega arith
 
 pub overflow_sub-place-in-loop-k : goal.overflow_sub-place-in-loop-k
-overflow_sub-place-in-loop-k c = (named _ _ _ _ _ _ _ c.requires c.entry_question-question.ensures c.if-question-ne0.false).2
+overflow_sub-place-in-loop-k c = (named _ _ _ _ _ _ _ c.requires refl (is_accepted _ _ c.entry_question.ensures c.in_ok-entry_question.was)).2
 
 pub overflow_add-place : goal.overflow_add-place
-overflow_add-place c = let p = named _ _ _ _ _ _ _ c.requires c.entry_question-question.ensures c.if-question-ne0.false in omega arith
+overflow_add-place c = let p = named _ _ _ _ _ _ _ c.requires refl (is_accepted _ _ c.entry_question.ensures c.in_ok-entry_question.was) in omega arith
 
 pub counter-requires : goal.counter-requires
-counter-requires c = c.in-Found.ensures.1
+counter-requires c = c.in-Some.ensures.1
 
 pub offset_bounds-first-place : goal.offset_bounds-first-place
-offset_bounds-first-place c = let p = named _ _ _ _ _ _ _ c.requires c.entry_question-question.ensures c.if-question-ne0.false in omega arith
+offset_bounds-first-place c = let p = named _ _ _ _ _ _ _ c.requires refl (is_accepted _ _ c.entry_question.ensures c.in_ok-entry_question.was) in omega arith
 
 pub bounds-first-place : goal.bounds-first-place
-bounds-first-place c = let p = named _ _ _ _ _ _ _ c.requires c.entry_question-question.ensures c.if-question-ne0.false in omega arith
+bounds-first-place c = let p = named _ _ _ _ _ _ _ c.requires refl (is_accepted _ _ c.entry_question.ensures c.in_ok-entry_question.was) in omega arith
 
 pub counter-requires-in-loop-k : goal.counter-requires-in-loop-k
-counter-requires-in-loop-k c = c.in-Found.ensures.2
+counter-requires-in-loop-k c = c.in-Some.ensures.2
 
 pub offset_bounds-last-place : goal.offset_bounds-last-place
-offset_bounds-last-place c = let p = named _ _ _ _ _ _ _ c.requires c.entry_question-question.ensures c.if-question-ne0.false in omega arith
+offset_bounds-last-place c = let p = named _ _ _ _ _ _ _ c.requires refl (is_accepted _ _ c.entry_question.ensures c.in_ok-entry_question.was) in omega arith
 
 pub bounds-last-place : goal.bounds-last-place
-bounds-last-place c = let p = named _ _ _ _ _ _ _ c.requires c.entry_question-question.ensures c.if-question-ne0.false in omega arith
+bounds-last-place c = let p = named _ _ _ _ _ _ _ c.requires refl (is_accepted _ _ c.entry_question.ensures c.in_ok-entry_question.was) in omega arith
 
 pub loop-k-preserved : goal.loop-k-preserved
-loop-k-preserved c = sofar_more _ _ _ _ _ _ _ _ _ _ c.loop-k.invariant c.loop-k-test.true _ _ c.in-Found.ensures _
-    c.entry_question-question.ensures c.if-question-ne0.false _ _ c.counter.ensures c.counter-in-loop-k.ensures
+loop-k-preserved c = sofar_more _ _ _ _ _ _ _ _ _ _ c.loop-k.invariant c.loop-k-test.true _ _ c.in-Some.ensures _
+    refl (is_accepted _ _ c.entry_question.ensures c.in_ok-entry_question.was) _ _ c.counter.ensures c.counter-in-loop-k.ensures
 
 pub returns-then-next-s : goal.returns-then-next-s
-returns-then-next-s c = refused_by _ _ _ _ 21 _
-    (sofar_over _ _ _ _ _ _ _ _ _ _ c.loop-k.invariant c.loop-k-test.false (λ e. absurd (omega arith)))
-    (λ z. absurd (omega arith)) c.refused-then-next-s.ensures
+returns-then-next-s c =
+    refuses ListFormed _ (sofar_over _ _ _ _ _ _ _ _ _ _ c.loop-k.invariant c.loop-k-test.false (λ e. absurd (omega arith)))
 
 pub returns : goal.returns
-returns c = sofar_ended _ _ _ _ _ _ _ _ _ _ c.loop-k.invariant c.loop-k-test.false c.if-next-s.false
+returns c =
+    let both = sofar_ended _ _ _ _ _ _ _ _ _ _ c.loop-k.invariant c.loop-k-test.false c.if-next-s.false in
+    accepts both.0 both.1

@@ -1,11 +1,7 @@
 -- `read_entries` meets its contract. The invariant: what is left to ask is asked of the numbers that follow.
-use Prim.Native.Nat.{◌-◌}
 use Rattle.resend_reader.proofs.EntryLoop.{Sofar}
 use Rattle.resend_reader.proofs.read_entries.Given as goal
 
 abbrev pub invariant-loop-k : goal.invariant-loop-k
 invariant-loop-k l =
     Sofar l.n l.s l.at l.count l.first l.last l.sender l.receiver l.next l.k
-
-abbrev pub decreases-loop-k : goal.decreases-loop-k
-decreases-loop-k l = l.count - l.k

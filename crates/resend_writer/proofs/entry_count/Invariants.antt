@@ -1,12 +1,7 @@
 -- `entry_count` meets its contract. The invariant: the count so far.
-use Prim.Native.Nat.{◌-◌}
 use Rattle.consistency.specs.Known.{counters}
-use Rattle.restart.specs.Values.{matrix_entries}
 use Rattle.resend_writer.proofs.Counts.{Counted}
 use Rattle.resend_writer.proofs.entry_count.Given as goal
 
 abbrev pub invariant-loop-i : goal.invariant-loop-i
 invariant-loop-i l = Counted (counters l.firsts) l.i l.count
-
-abbrev pub decreases-loop-i : goal.decreases-loop-i
-decreases-loop-i l = matrix_entries - l.i

@@ -1,76 +1,50 @@
 -- `is_absent` meets its contract.
-use mathlib.Core.Path.{◌≡◌, sym, ◌∙◌}
+use mathlib.Core.Path.{◌≡◌, refl, ◌∙◌}
+use mathlib.Core.Bool.{◌&&◌}
+use borrow.Author.Tests.{eq-eqb, ne_eqb}
+use lib.Dec.{eqb}
 use Rattle.matrix.specs.Matrix.{as_row}
 use Rattle.matrix.specs.Entries.{same}
-use Rattle.session.specs.Fits.{is_before}
-use Rattle.session_check.proofs.Absent.{zero_row, zero_same, left1, left2, left3, left4, left5, left6, left7, absent_is, past_zero, not_zero, past_test, no_test}
+use Rattle.session.specs.Fits.{is_before, is_absent}
+use Rattle.session_check.proofs.Variants.{before_is}
+use Rattle.session_check.proofs.Absent.{zero_row, zero_same, past_yes, past_no, absent_is}
 use Rattle.session_check.proofs.is_absent.Goals as goal
+use Rattle.session_check.proofs.is_absent.Goals.{Joined-eq-4, then-p-eq0, else-p-eq0, then-eq, else-eq, then-eq-2, else-eq-2, then-p-eq0-2, else-p-eq0-2, then-eq-3, else-eq-3, then-eq-4, else-eq-4}
 
-pub returns-then-p-ne0 : goal.returns-then-p-ne0
-returns-then-p-ne0 c =
-    let p = c.args.p in not_zero p.n (left1 p) (absent_is p) c.if-p-ne0.true
-
-pub returns-then-me-ne0 : goal.returns-then-me-ne0
-returns-then-me-ne0 c =
+-- the tests before the last, and it
+tested : (c : Joined-eq-4) → (c.if-eq-4.value && same c.args.p.column (as_row (λ q. 0))) ≡ is_absent c.args.p
+tested c =
     let p = c.args.p in
-    let past1 = past_zero p.n (left1 p) (absent_is p) c.if-p-ne0.false in
-    not_zero p.me.0 (left2 p) past1 c.if-me-ne0.true
+    let row = zero_same p.row _ zero_row in
+    let e0 : c.if-p-eq0.value ≡ (eqb p.n 0 && eqb p.me.0 0) = elim c.if-p-eq0.branch [
+      | then-p-eq0 w ↦ past_yes (eq-eqb p.n 0 w.if-p-eq0.true) (w.value-is ∙ w.eq.ensures)
+      | else-p-eq0 w ↦ past_no _ (ne_eqb p.n 0 w.if-p-eq0.false) w.value-is
+    ] in
+    let e1 : c.if-eq.value ≡ (c.if-p-eq0.value && eqb p.initiator.0 0) = elim c.if-eq.branch [
+      | then-eq w ↦ past_yes w.if-eq.true (w.value-is ∙ w.eq-then-eq.ensures)
+      | else-eq w ↦ past_no _ w.if-eq.false w.value-is
+    ] in
+    let e2 : c.if-eq-2.value ≡ (c.if-eq.value && eqb p.purpose 0) = elim c.if-eq-2.branch [
+      | then-eq-2 w ↦ past_yes w.if-eq-2.true w.value-is
+      | else-eq-2 w ↦ past_no _ w.if-eq-2.false w.value-is
+    ] in
+    let e3 : c.if-p-eq0-2.value ≡ (c.if-eq-2.value && is_before p.stage) = elim c.if-p-eq0-2.branch [
+      | then-p-eq0-2 w ↦ past_yes w.if-p-eq0-2.true (w.value-is ∙ (w.eq-then-p-eq0-2.ensures ∙ before_is p.stage))
+      | else-p-eq0-2 w ↦ past_no _ w.if-p-eq0-2.false w.value-is
+    ] in
+    let e4 : c.if-eq-3.value ≡ (c.if-p-eq0-2.value && eqb p.candidate.0 0) = elim c.if-eq-3.branch [
+      | then-eq-3 w ↦ past_yes w.if-eq-3.true (w.value-is ∙ w.eq-then-eq-3.ensures)
+      | else-eq-3 w ↦ past_no _ w.if-eq-3.false w.value-is
+    ] in
+    let e5 : c.if-eq-4.value ≡ (c.if-eq-3.value && same p.row (as_row (λ q. 0))) = elim c.if-eq-4.branch [
+      | then-eq-4 w ↦ past_yes w.if-eq-4.true (w.value-is ∙ (w.same.ensures ∙ row))
+      | else-eq-4 w ↦ past_no _ w.if-eq-4.false w.value-is
+    ] in
+    absent_is p e0 e1 e2 e3 e4 e5
 
-pub returns-then-initiator-ne0 : goal.returns-then-initiator-ne0
-returns-then-initiator-ne0 c =
-    let p = c.args.p in
-    let past1 = past_zero p.n (left1 p) (absent_is p) c.if-p-ne0.false in
-    let past2 = past_zero p.me.0 (left2 p) past1 c.if-me-ne0.false in
-    not_zero p.initiator.0 (left3 p) past2 c.if-initiator-ne0.true
+pub returns-then-same : goal.returns-then-same
+returns-then-same c =
+    past_yes c.if-same.true (c.same-then-same.ensures ∙ zero_same c.args.p.column _ zero_row) ∙ tested (goal.at.returns-then-same c).Joined-eq-4
 
-pub returns-then-p-ne0-2 : goal.returns-then-p-ne0-2
-returns-then-p-ne0-2 c =
-    let p = c.args.p in
-    let past1 = past_zero p.n (left1 p) (absent_is p) c.if-p-ne0.false in
-    let past2 = past_zero p.me.0 (left2 p) past1 c.if-me-ne0.false in
-    let past3 = past_zero p.initiator.0 (left3 p) past2 c.if-initiator-ne0.false in
-    not_zero p.purpose (left4 p) past3 c.if-p-ne0-2.true
-
-pub returns-then-not-is_before : goal.returns-then-not-is_before
-returns-then-not-is_before c =
-    let p = c.args.p in
-    let past1 = past_zero p.n (left1 p) (absent_is p) c.if-p-ne0.false in
-    let past2 = past_zero p.me.0 (left2 p) past1 c.if-me-ne0.false in
-    let past3 = past_zero p.initiator.0 (left3 p) past2 c.if-initiator-ne0.false in
-    let past4 = past_zero p.purpose (left4 p) past3 c.if-p-ne0-2.false in
-    no_test (is_before p.stage) (left5 p) past4 (sym c.is_before.ensures ∙ c.if-not-is_before.true)
-
-pub returns-then-candidate-ne0 : goal.returns-then-candidate-ne0
-returns-then-candidate-ne0 c =
-    let p = c.args.p in
-    let past1 = past_zero p.n (left1 p) (absent_is p) c.if-p-ne0.false in
-    let past2 = past_zero p.me.0 (left2 p) past1 c.if-me-ne0.false in
-    let past3 = past_zero p.initiator.0 (left3 p) past2 c.if-initiator-ne0.false in
-    let past4 = past_zero p.purpose (left4 p) past3 c.if-p-ne0-2.false in
-    let past5 = past_test (is_before p.stage) (left5 p) past4 (sym c.is_before.ensures ∙ c.if-not-is_before.false) in
-    not_zero p.candidate.0 (left6 p) past5 c.if-candidate-ne0.true
-
-pub returns-then-not-same : goal.returns-then-not-same
-returns-then-not-same c =
-    let p = c.args.p in
-    let past1 = past_zero p.n (left1 p) (absent_is p) c.if-p-ne0.false in
-    let past2 = past_zero p.me.0 (left2 p) past1 c.if-me-ne0.false in
-    let past3 = past_zero p.initiator.0 (left3 p) past2 c.if-initiator-ne0.false in
-    let past4 = past_zero p.purpose (left4 p) past3 c.if-p-ne0-2.false in
-    let past5 = past_test (is_before p.stage) (left5 p) past4 (sym c.is_before.ensures ∙ c.if-not-is_before.false) in
-    let past6 = past_zero p.candidate.0 (left6 p) past5 c.if-candidate-ne0.false in
-    let row_told : c.same.result ≡ same p.row (as_row (λ q. 0)) = c.same.ensures ∙ zero_same p.row _ zero_row in
-    no_test (same p.row (as_row (λ q. 0))) (left7 p) past6 (sym row_told ∙ c.if-not-same.true)
-
-pub returns : goal.returns
-returns c =
-    let p = c.args.p in
-    let past1 = past_zero p.n (left1 p) (absent_is p) c.if-p-ne0.false in
-    let past2 = past_zero p.me.0 (left2 p) past1 c.if-me-ne0.false in
-    let past3 = past_zero p.initiator.0 (left3 p) past2 c.if-initiator-ne0.false in
-    let past4 = past_zero p.purpose (left4 p) past3 c.if-p-ne0-2.false in
-    let past5 = past_test (is_before p.stage) (left5 p) past4 (sym c.is_before.ensures ∙ c.if-not-is_before.false) in
-    let past6 = past_zero p.candidate.0 (left6 p) past5 c.if-candidate-ne0.false in
-    let row_told : c.same.result ≡ same p.row (as_row (λ q. 0)) = c.same.ensures ∙ zero_same p.row _ zero_row in
-    let past7 = past_test (same p.row (as_row (λ q. 0))) (left7 p) past6 (sym row_told ∙ c.if-not-same.false) in
-    (c.same-2.ensures ∙ zero_same p.column _ zero_row) ∙ sym past7
+pub returns-else-same : goal.returns-else-same
+returns-else-same c = past_no _ c.if-same.false refl ∙ tested (goal.at.returns-else-same c).Joined-eq-4

@@ -1,7 +1,6 @@
 -- `places_fit` meets its contract. The invariant: the places so far fit.
 use mathlib.Core.Path.{◌≡◌}
 use mathlib.Core.Bool.{true}
-use Prim.Native.Nat.{◌-◌}
 use Rattle.book.specs.Lent.{lent}
 use Rattle.lists.proofs.Before.{Before}
 use Rattle.session.specs.Fits.{place_fits}
@@ -10,6 +9,3 @@ use Rattle.session_check.proofs.places_fit.Given as goal
 abbrev pub invariant-loop-k : goal.invariant-loop-k
 invariant-loop-k l =
     Before 16 (λ j. place_fits (lent l.rows.shape l.sent l.received) l.session l.strands j ≡ true) l.k
-
-abbrev pub decreases-loop-k : goal.decreases-loop-k
-decreases-loop-k l = 16 - l.k

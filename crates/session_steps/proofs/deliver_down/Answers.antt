@@ -3,16 +3,12 @@ use mathlib.Core.Path.{◌≡◌}
 use native.Mathlib.Omega.{arith}
 use lib.ListN.{length, get_or}
 use Rattle.book.specs.Lent.{lent}
-use Rattle.line_theory.proofs.Accepted.{rows_few}
 use Rattle.participant.specs.Calls.{no_participant}
 use Rattle.session.specs.Workers.{participant_at}
 use Rattle.lists.proofs.Over.{at_place}
 use Rattle.session_steps.proofs.Steps.{beyond, names_down, down_is}
 use borrow.Author.Rules.{rules}
 use Rattle.session_steps.proofs.deliver_down.Goals as goal
-
-pub read_message-read-requires : goal.read_message-read-requires
-read_message-read-requires c = omega (arith, rows_few)
 
 pub step-next-requires : goal.step-next-requires
 step-next-requires c = let long : length c.args.session.participants ≡ 16 = search rules in
@@ -40,18 +36,17 @@ on_strand-requires c = let pre = c.requires in
     (pre.k_bound.0, omega (arith, pre.le_initiator))
 
 pub returns : goal.returns
-returns c = let long : length c.args.session.participants ≡ 16 = search rules in
+returns c = λ s is. let long : length c.args.session.participants ≡ 16 = search rules in
     let taken : let a = c.args in get_or a.session.participants a.k beyond ≡ participant_at a.session a.k = let a = c.args in
     at_place beyond no_participant a.session.participants a.k (omega (arith, long, c.requires.k_bound.0)) in
     let a = c.args in
     let next = c.step-next in
-    let read = c.read_message-read in
-    down_is (lent a.rows.shape a.sent.now a.received.now) a.session a.k a.s.now _ read.result.message next.result
+    down_is (lent a.rows.shape a.sent.now a.received.now) a.session a.k s _ a.message next.result
     c.delivered_on.result
     c.on_strand.result
     (taken)
     c.requires.k_value
-    c.read_message-read.ensures.message_value
+    is
     next.ensures
     c.delivered_on.ensures
     c.on_strand.ensures

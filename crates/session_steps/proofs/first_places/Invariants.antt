@@ -1,6 +1,5 @@
 -- `first_places` meets its contract. The invariant: the machines so far are the first ones.
 use mathlib.Core.List.{[]}
-use Prim.Native.Nat.{◌-◌}
 use Rattle.book.specs.Lent.{lent}
 use Rattle.lists.proofs.Filling.{Filled}
 use Rattle.participant.specs.Calls.{no_participant}
@@ -10,6 +9,3 @@ use Rattle.session_steps.proofs.first_places.Given as goal
 abbrev pub invariant-loop-k : goal.invariant-loop-k
 invariant-loop-k l =
     Filled no_participant l.initial.places 16 (place_at_start (lent l.shape [] []) l.initiator l.purpose) l.places l.k
-
-abbrev pub decreases-loop-k : goal.decreases-loop-k
-decreases-loop-k l = 16 - l.k

@@ -9,6 +9,3 @@ use Rattle.state_words.proofs.flags_at.Given as goal
 
 abbrev pub invariant-loop-i : goal.invariant-loop-i
 invariant-loop-i l = Filled false l.initial.flags most_processes (λ k. flag_in (word l.words (l.at + k))) l.flags l.i
-
-abbrev pub decreases-loop-i : goal.decreases-loop-i
-decreases-loop-i l = most_processes - l.i

@@ -8,6 +8,3 @@ use Rattle.state_words.proofs.put_flags.Given as goal
 
 abbrev pub invariant-loop-i : goal.invariant-loop-i
 invariant-loop-i l = Stored most_processes (λ p. flag_word (flag l.flags p)) l.initial.words l.at l.words l.i
-
-abbrev pub decreases-loop-i : goal.decreases-loop-i
-decreases-loop-i l = most_processes - l.i

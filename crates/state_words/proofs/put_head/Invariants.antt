@@ -7,6 +7,3 @@ use Rattle.state_words.proofs.put_head.Given as goal
 
 abbrev pub invariant-loop-i : goal.invariant-loop-i
 invariant-loop-i l = Stored (length l.head) (word l.head) l.initial.words l.at l.words l.i
-
-abbrev pub decreases-loop-i : goal.decreases-loop-i
-decreases-loop-i l = length l.head - l.i

@@ -10,6 +10,3 @@ use Rattle.strands.proofs.have_room.Given as goal
 abbrev pub invariant-loop-k : goal.invariant-loop-k
 invariant-loop-k l =
     Before 16 (λ p. room_for l.n l.initiator l.outgoing (length l.strands) p ≡ true) l.k
-
-abbrev pub decreases-loop-k : goal.decreases-loop-k
-decreases-loop-k l = 16 - l.k

@@ -6,6 +6,3 @@ use Rattle.strands.proofs.post.Given as goal
 abbrev pub invariant-loop-k : goal.invariant-loop-k
 invariant-loop-k l =
     Posted l.n l.initiator l.outgoing l.lengths l.initial.strands l.initial.next l.k l.strands l.next
-
-abbrev pub decreases-loop-k : goal.decreases-loop-k
-decreases-loop-k l = 16 - l.k

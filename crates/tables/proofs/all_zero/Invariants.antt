@@ -1,5 +1,4 @@
 -- `tables::all_zero` meets its contract: `clear` is the answer for the entries before i.
-use Prim.Native.Nat.{◌-◌}
 use lib.ListN.{take, drop}
 use Rattle.book.specs.Questions.{all_zero}
 use Rattle.tables.proofs.Zeros.{Clearing}
@@ -7,6 +6,3 @@ use Rattle.tables.proofs.all_zero.Given as goal
 
 abbrev pub invariant-loop-i : goal.invariant-loop-i
 invariant-loop-i l = Clearing (all_zero (drop l.from (take l.to l.table))) l.table l.to l.i l.clear
-
-abbrev pub decreases-loop-i : goal.decreases-loop-i
-decreases-loop-i l = l.to - l.i

@@ -1,5 +1,5 @@
 -- `tables::process_question` meets its contract: the rows before r pass.
-use Prim.Native.Nat.{◌-◌, ◌*◌}
+use Prim.Native.Nat.{◌*◌}
 use lib.ListN.{drop}
 use Rattle.book.specs.Bounds.{mark}
 use Rattle.book.specs.Tables.{checkpoints_of}
@@ -12,6 +12,3 @@ abbrev pub invariant-loop-r : goal.invariant-loop-r
 invariant-loop-r l =
     Climbed (process_question mark l.n l.count (joined (checkpoints_of l.n l.j l.count (drop (l.first * 16) l.sent) (drop (l.first * 16) l.received))))
     mark l.n l.j l.first l.count l.sent l.received l.r
-
-abbrev pub decreases-loop-r : goal.decreases-loop-r
-decreases-loop-r l = l.count - l.r

@@ -1,4 +1,4 @@
-use mathlib.Core.Path.{◌≡◌, refl}
+use mathlib.Core.Path.{◌≡◌, refl, sym, ◌∙◌}
 use Prim.Native.Nat.{◌+◌, ◌<◌}
 use native.Mathlib.Omega.{arith}
 use borrow.Author.Rules.{rules}
@@ -8,9 +8,10 @@ use Rattle.book.specs.Tables.{partner_column}
 use Rattle.book.specs.Questions.{counter_question}
 use Rattle.book.specs.Before.{entry_before}
 use Rattle.book.proofs.Rows.{column_within}
+use Rattle.book.proofs.Refusals.{refused_by, is_refused, is_accepted, hands_on, accepts}
 use Rattle.tables.proofs.RowLoop.{asked_fail, asked_more, asked_end}
 use Rattle.tables.proofs.row_question.Goals as goal
-use Rattle.tables.proofs.row_question.Goals.{After-partner_column, After-counter_question-question}
+use Rattle.tables.proofs.row_question.Goals.{After-partner_column, After-counter_question}
 
 pub loop-k-init : goal.loop-k-init
 loop-k-init c = record { passed = search rules; rest = refl }
@@ -33,21 +34,27 @@ pub entry_before-before-requires : goal.entry_before-before-requires
 entry_before-before-requires c = (omega (arith, within (goal.at.entry_before-before-requires c).After-partner_column), λ e. omega (arith, c.requires.later e))
 
 -- the answer is that of the k-th counter
-found : (c : After-counter_question-question)
+found : (c : After-counter_question)
     → let a = c.args in
     let at = a.start + partner_column a.j c.loop-k.k in
-    c.counter_question-question.result ≡ counter_question mark a.zeros (entry_before a.oldest at a.table.now) (get_or a.table.now at 0)
-found c =
-    rw (← c.partner_column.ensures, ← c.entry_before-before.ensures, ← c.wide-v.ensures)
-    c.counter_question-question.ensures
+    counter_question mark a.zeros c.entry_before-before.result c.wide-v.result
+    ≡ counter_question mark a.zeros (entry_before a.oldest at a.table.now) (get_or a.table.now at 0)
+found c = rw (← c.partner_column.ensures, ← c.entry_before-before.ensures, ← c.wide-v.ensures) refl
 
-pub returns-then-question-ne0 : goal.returns-then-question-ne0
-returns-then-question-ne0 c = asked_fail _ _ _ _ _ c.requires _ _ _ _ c.loop-k.invariant _
-    (found (goal.at.returns-then-question-ne0 c).After-counter_question-question) c.loop-k-test.true c.if-question-ne0.true
+pub returns-in_err-counter_question : goal.returns-in_err-counter_question
+returns-in_err-counter_question c =
+    let h = c.counter_question.ensures in
+    let was = c.in_err-counter_question.was in
+    hands_on _ c.in_err-counter_question.field-0.0 tt c.from_residual.ensures.1 (λ f same. same)
+    (sym (asked_fail _ _ _ _ _ c.requires _ _ _ _ c.loop-k.invariant _
+    (found (goal.at.returns-in_err-counter_question c).After-counter_question) c.loop-k-test.true (is_refused _ _ h was))
+    ∙ refused_by _ _ h was)
 
 pub loop-k-preserved : goal.loop-k-preserved
-loop-k-preserved c = asked_more _ _ _ _ _ c.requires _ _ _ _ c.loop-k.invariant _
-    (found (goal.at.loop-k-preserved c).After-counter_question-question) c.loop-k-test.true c.if-question-ne0.false
+loop-k-preserved c =
+    asked_more _ _ _ _ _ c.requires _ _ _ _ c.loop-k.invariant _
+    (found (goal.at.loop-k-preserved c).After-counter_question) c.loop-k-test.true
+    (is_accepted _ _ c.counter_question.ensures c.in_ok-counter_question.was)
 
 pub returns : goal.returns
-returns c = asked_end _ _ _ _ _ c.requires _ _ _ _ c.loop-k.invariant c.loop-k-test.false
+returns c = accepts (sym (asked_end _ _ _ _ _ c.requires _ _ _ _ c.loop-k.invariant c.loop-k-test.false)) refl

@@ -1,5 +1,4 @@
 -- `tables::row_question` meets its contract: the counters before the k-th pass.
-use Prim.Native.Nat.{◌-◌}
 use lib.ListN.{drop}
 use Rattle.book.specs.Bounds.{mark}
 use Rattle.book.specs.Tables.{others}
@@ -11,6 +10,3 @@ use Rattle.tables.proofs.row_question.Given as goal
 abbrev pub invariant-loop-k : goal.invariant-loop-k
 invariant-loop-k l =
     Asked (counters_question mark l.zeros (counters_before l.oldest l.n l.j l.start l.table) (others l.n l.j (drop l.start l.table))) mark l.oldest l.zeros l.table l.start l.n l.j l.k
-
-abbrev pub decreases-loop-k : goal.decreases-loop-k
-decreases-loop-k l = l.n - 1 - l.k

@@ -1,5 +1,4 @@
 -- `tables::unused_zero` meets its contract: what is unused before process j is zero, and its rows begin at `first`.
-use Prim.Native.Nat.{◌-◌}
 use lib.ListN.{take}
 use Rattle.book.specs.Questions.{all_zero, unused_from}
 use Rattle.tables.proofs.UnusedLoop.{Cleared}
@@ -7,6 +6,3 @@ use Rattle.tables.proofs.unused_zero.Given as goal
 
 abbrev pub invariant-loop-j : goal.invariant-loop-j
 invariant-loop-j l = Cleared (all_zero (unused_from l.n 0 (take l.n l.counts) l.table)) l.n l.counts l.table l.first l.j
-
-abbrev pub decreases-loop-j : goal.decreases-loop-j
-decreases-loop-j l = l.n - l.j

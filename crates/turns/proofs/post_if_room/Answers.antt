@@ -11,14 +11,11 @@ use Rattle.turns.proofs.post_if_room.Goals as goal
 pub returns-then-not-have_room : goal.returns-then-not-have_room
 returns-then-not-have_room c = let a = c.args in
     let told = c.have_room in
-    let whole = no_room a.kept (with_posted a.turned) a.strands.now (strands_with a.n a.turned a.strands.now) _ c.refused.result.answer
-    c.refused.result.session
-    (sym told.ensures ∙ c.if-not-have_room.true)
-    c.refused.ensures in
-    record { answer_value = whole.0; session_value = whole.1.0; strands_after = whole.1.1 }
+    let whole = no_room (with_posted a.turned) a.strands.now (strands_with a.n a.turned a.strands.now) _ (sym told.ensures ∙ c.if-not-have_room.true) in
+    record { answer = whole.0; strands_after = whole.1 }
 
-pub post-session-requires : goal.post-session-requires
-post-session-requires c = let roomy : let a = c.args in
+pub post-requires : goal.post-requires
+post-requires c = let roomy : let a = c.args in
     have_room a.n (a.turned.session.initiator.0 - 1) a.turned.outgoing a.strands.now ≡ true = let told = c.have_room in sym told.ensures ∙ c.if-not-have_room.false in
     let pre = c.requires in
     record { le_n = pre.le_n; le_initiator = pre.le_initiator; strands_value = roomy }
@@ -27,10 +24,10 @@ pub returns : goal.returns
 returns c = let roomy : let a = c.args in
     have_room a.n (a.turned.session.initiator.0 - 1) a.turned.outgoing a.strands.now ≡ true = let told = c.have_room in sym told.ensures ∙ c.if-not-have_room.false in
     let a = c.args in
-    let done = c.post-session in
-    let whole = with_room a.kept (with_posted a.turned) a.strands.now (strands_with a.n a.turned a.strands.now) _ done.result
-    c.post-session.new.strands
+    let done = c.post in
+    let whole = with_room (with_posted a.turned) a.strands.now (strands_with a.n a.turned a.strands.now) _ done.result
+    c.post.new.strands
     (roomy)
-    c.post-session.ensures.value
-    c.post-session.ensures.strands_after in
-    record { answer_value = whole.0; session_value = whole.1.0; strands_after = whole.1.1 }
+    c.post.ensures.value
+    c.post.ensures.strands_after in
+    record { answer = whole.0; strands_after = whole.1 }

@@ -1,9 +1,11 @@
 -- `session_question` meets its contract: at each return the tests that led there say which question fails first.
-use mathlib.Core.Path.{◌≡◌, sym, ◌∙◌}
+use mathlib.Core.Path.{◌≡◌, refl, sym, ◌∙◌}
 use mathlib.Core.Bool.{true, ◌&&◌}
 use Prim.Native.Nat.{◌≤◌}
 use native.Mathlib.Omega.{arith}
 use Rattle.book.specs.Lent.{lent}
+use Rattle.book.specs.declared.Question.TheVariants.{Named, Purpose, StateFits}
+use Rattle.book.proofs.Refusals.{refuses, accepts}
 use Rattle.lists.proofs.Tests.{both_and, and_first, and_second}
 use Rattle.machine.specs.Named.{participant_named}
 use Rattle.machine.proofs.Answers.{first_no, second_no, third_no, all_yes}
@@ -14,18 +16,18 @@ use Rattle.turns.proofs.session_question.Goals as goal
 pub returns-then-not-participant_named : goal.returns-then-not-participant_named
 returns-then-not-participant_named c = let a = c.args in
     let told = c.participant_named in
-    first_no 10 11 13 (participant_named a.rows.shape.n a.p.0 a.session.initiator.0 && session_named a.rows.shape.n a.session) (session_purposes a.session)
+    refuses Named tt (sym (first_no 10 11 13 (participant_named a.rows.shape.n a.p.0 a.session.initiator.0 && session_named a.rows.shape.n a.session) (session_purposes a.session)
     (session_fits (lent a.rows.shape a.sent.now a.received.now) a.session a.strands.now)
     (omega arith)
-    (and_first (participant_named a.rows.shape.n a.p.0 a.session.initiator.0) (session_named a.rows.shape.n a.session) (sym told.ensures ∙ c.if-not-participant_named.true))
+    (and_first (participant_named a.rows.shape.n a.p.0 a.session.initiator.0) (session_named a.rows.shape.n a.session) (sym told.ensures ∙ c.if-not-participant_named.true))))
 
 pub returns-then-not-named : goal.returns-then-not-named
 returns-then-not-named c = let a = c.args in
     let told = c.named in
-    first_no 10 11 13 (participant_named a.rows.shape.n a.p.0 a.session.initiator.0 && session_named a.rows.shape.n a.session) (session_purposes a.session)
+    refuses Named tt (sym (first_no 10 11 13 (participant_named a.rows.shape.n a.p.0 a.session.initiator.0 && session_named a.rows.shape.n a.session) (session_purposes a.session)
     (session_fits (lent a.rows.shape a.sent.now a.received.now) a.session a.strands.now)
     (omega arith)
-    (and_second (participant_named a.rows.shape.n a.p.0 a.session.initiator.0) (session_named a.rows.shape.n a.session) (sym told.ensures ∙ c.if-not-named.true))
+    (and_second (participant_named a.rows.shape.n a.p.0 a.session.initiator.0) (session_named a.rows.shape.n a.session) (sym told.ensures ∙ c.if-not-named.true))))
 
 pub returns-then-not-purposes : goal.returns-then-not-purposes
 returns-then-not-purposes c = let named_in : let a = c.args in participant_named a.rows.shape.n a.p.0 a.session.initiator.0 ≡ true = let told = c.participant_named in sym told.ensures ∙ c.if-not-participant_named.false in
@@ -35,11 +37,11 @@ returns-then-not-purposes c = let named_in : let a = c.args in participant_named
     both_and (participant_named a.rows.shape.n a.p.0 a.session.initiator.0) (session_named a.rows.shape.n a.session) (named_in) (sym told.ensures ∙ c.if-not-named.false) in
     let a = c.args in
     let told = c.purposes in
-    second_no 10 11 13 (participant_named a.rows.shape.n a.p.0 a.session.initiator.0 && session_named a.rows.shape.n a.session) (session_purposes a.session)
+    refuses Purpose tt (sym (second_no 10 11 13 (participant_named a.rows.shape.n a.p.0 a.session.initiator.0 && session_named a.rows.shape.n a.session) (session_purposes a.session)
     (session_fits (lent a.rows.shape a.sent.now a.received.now) a.session a.strands.now)
     (names)
     (omega arith)
-    (sym told.ensures ∙ c.if-not-purposes.true)
+    (sym told.ensures ∙ c.if-not-purposes.true)))
 
 pub fits-requires : goal.fits-requires
 fits-requires c = let named_in : let a = c.args in participant_named a.rows.shape.n a.p.0 a.session.initiator.0 ≡ true = let told = c.participant_named in sym told.ensures ∙ c.if-not-participant_named.false in
@@ -56,11 +58,11 @@ returns-then-not-fits c = let named_in : let a = c.args in participant_named a.r
     let right : let a = c.args in session_purposes a.session ≡ true = let told = c.purposes in sym told.ensures ∙ c.if-not-purposes.false in
     let a = c.args in
     let told = c.fits in
-    third_no 10 11 13 (participant_named a.rows.shape.n a.p.0 a.session.initiator.0 && session_named a.rows.shape.n a.session) (session_purposes a.session)
+    refuses StateFits tt (sym (third_no 10 11 13 (participant_named a.rows.shape.n a.p.0 a.session.initiator.0 && session_named a.rows.shape.n a.session) (session_purposes a.session)
     (session_fits (lent a.rows.shape a.sent.now a.received.now) a.session a.strands.now)
     (names)
     (right)
-    (sym told.ensures ∙ c.if-not-fits.true)
+    (sym told.ensures ∙ c.if-not-fits.true)))
 
 pub returns : goal.returns
 returns c = let named_in : let a = c.args in participant_named a.rows.shape.n a.p.0 a.session.initiator.0 ≡ true = let told = c.participant_named in sym told.ensures ∙ c.if-not-participant_named.false in
@@ -71,8 +73,8 @@ returns c = let named_in : let a = c.args in participant_named a.rows.shape.n a.
     let right : let a = c.args in session_purposes a.session ≡ true = let told = c.purposes in sym told.ensures ∙ c.if-not-purposes.false in
     let a = c.args in
     let told = c.fits in
-    all_yes 10 11 13 (participant_named a.rows.shape.n a.p.0 a.session.initiator.0 && session_named a.rows.shape.n a.session) (session_purposes a.session)
+    accepts (sym (all_yes 10 11 13 (participant_named a.rows.shape.n a.p.0 a.session.initiator.0 && session_named a.rows.shape.n a.session) (session_purposes a.session)
     (session_fits (lent a.rows.shape a.sent.now a.received.now) a.session a.strands.now)
     (names)
     (right)
-    (sym told.ensures ∙ c.if-not-fits.false)
+    (sym told.ensures ∙ c.if-not-fits.false))) refl

@@ -2,7 +2,7 @@
 -- Assumes nothing.
 use native.Mathlib.Omega.{arith}
 use mathlib.Core.Path.{sym, ap, ◌∙◌}
-use Rattle.varint.specs.declared.Written.TheVariants.{Next}
+use Rattle.std.specs.Prelude.{Some}
 use Rattle.varint.proofs.WriteTurns.{place_room, place_full, bytes_room, bytes_full}
 use Rattle.varint.proofs.write_number.Goals as goal
 
@@ -13,4 +13,4 @@ pub returns-then-out-at-2 : goal.returns-then-out-at-2
 returns-then-out-at-2 c = record { answer = sym (place_full _ _ _ (omega arith)); bytes = sym (bytes_full _ _ _ (omega arith)) }
 
 pub returns : goal.returns
-returns c = record { answer = ap Next c.put_number-next.ensures.next ∙ sym (place_room _ _ _ (omega arith)); bytes = c.put_number-next.ensures.bytes ∙ sym (bytes_room _ _ _ (omega arith)) }
+returns c = record { answer = ap Some c.put_number-next.ensures.next ∙ sym (place_room _ _ _ (omega arith)); bytes = c.put_number-next.ensures.bytes ∙ sym (bytes_room _ _ _ (omega arith)) }

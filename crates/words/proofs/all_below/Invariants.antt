@@ -9,6 +9,3 @@ use Rattle.words.proofs.all_below.Given as goal
 
 abbrev pub invariant-loop-i : goal.invariant-loop-i
 invariant-loop-i l = Before l.k (λ j. ltb (word l.words (l.at + j)) l.bound ≡ true) l.i
-
-abbrev pub decreases-loop-i : goal.decreases-loop-i
-decreases-loop-i l = l.k - l.i

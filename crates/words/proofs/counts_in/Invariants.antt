@@ -9,6 +9,3 @@ use Rattle.words.proofs.counts_in.Given as goal
 abbrev pub invariant-loop-i : goal.invariant-loop-i
 invariant-loop-i l =
     Filled {A = Count} (record { 0 = 0 }) l.initial.counts most_processes (λ k. record { 0 = get_or l.entries k 0 }) l.counts l.i
-
-abbrev pub decreases-loop-i : goal.decreases-loop-i
-decreases-loop-i l = most_processes - l.i

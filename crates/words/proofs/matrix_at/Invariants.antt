@@ -8,6 +8,3 @@ use Rattle.words.proofs.matrix_at.Given as goal
 abbrev pub invariant-loop-i : goal.invariant-loop-i
 invariant-loop-i l =
     Filled {A = Count} (record { 0 = 0 }) l.initial.counts matrix_length (λ k. record { 0 = counter_in (word l.words (l.at + k)) }) l.counts l.i
-
-abbrev pub decreases-loop-i : goal.decreases-loop-i
-decreases-loop-i l = matrix_length - l.i

@@ -7,6 +7,3 @@ use Rattle.words.proofs.numbers_at.Given as goal
 
 abbrev pub invariant-loop-i : goal.invariant-loop-i
 invariant-loop-i l = Filled 0 l.initial.numbers most_processes (λ k. word l.words (l.at + k)) l.numbers l.i
-
-abbrev pub decreases-loop-i : goal.decreases-loop-i
-decreases-loop-i l = most_processes - l.i

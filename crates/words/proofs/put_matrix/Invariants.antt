@@ -7,6 +7,3 @@ use Rattle.words.proofs.put_matrix.Given as goal
 
 abbrev pub invariant-loop-i : goal.invariant-loop-i
 invariant-loop-i l = Stored matrix_length (counters l.entries) l.initial.words l.at l.words l.i
-
-abbrev pub decreases-loop-i : goal.decreases-loop-i
-decreases-loop-i l = matrix_length - l.i

@@ -7,6 +7,3 @@ use Rattle.words.proofs.put_set.Given as goal
 
 abbrev pub invariant-loop-i : goal.invariant-loop-i
 invariant-loop-i l = Stored most_processes (chosen l.set) l.initial.words l.at l.words l.i
-
-abbrev pub decreases-loop-i : goal.decreases-loop-i
-decreases-loop-i l = most_processes - l.i

@@ -8,6 +8,3 @@ use Rattle.words.proofs.set_in.Given as goal
 
 abbrev pub invariant-loop-i : goal.invariant-loop-i
 invariant-loop-i l = Filled {A = Checkpoint} (record { 0 = 0 }) l.initial.set most_processes (λ k. record { 0 = word l.words k }) l.set l.i
-
-abbrev pub decreases-loop-i : goal.decreases-loop-i
-decreases-loop-i l = most_processes - l.i

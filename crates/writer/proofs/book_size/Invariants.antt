@@ -1,7 +1,7 @@
 -- `writer::book_size` meets its contract. The invariant: the bytes counted and those of the processes left are all, and the start
 -- carried to the next process is its first row.
 use mathlib.Core.List.{List}
-use Prim.Native.Nat.{ℕ, ◌+◌, ◌-◌, ◌*◌, ◌≤◌}
+use Prim.Native.Nat.{ℕ, ◌+◌, ◌*◌, ◌≤◌}
 use Rattle.book.specs.Lent.{lent}
 use Rattle.book.specs.declared.Shape.{Shape}
 use Rattle.book.specs.Starts.{RowStart}
@@ -18,6 +18,3 @@ pub record Sized (shape : Shape) (sent received : List ℕ) (size first j : ℕ)
 
 abbrev pub invariant-loop-j : goal.invariant-loop-j
 invariant-loop-j l = Sized (record { n = l.n; counts = l.counts }) l.sent l.received l.size l.first l.j
-
-abbrev pub decreases-loop-j : goal.decreases-loop-j
-decreases-loop-j l = l.n - l.j

@@ -10,6 +10,3 @@ invariant-loop-r l =
     (l.r ≤ l.count)
     × (l.size ≤ 300 * l.r)
     × Counted (checkpoints_bytes l.n l.j l.first l.count l.sent l.received) (checkpoints_bytes l.n l.j (l.first + l.r) (l.count - l.r) l.sent l.received) l.size
-
-abbrev pub decreases-loop-r : goal.decreases-loop-r
-decreases-loop-r l = l.count - l.r

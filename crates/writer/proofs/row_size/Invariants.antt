@@ -7,6 +7,3 @@ use Rattle.writer.proofs.row_size.Given as goal
 abbrev pub invariant-loop-k : goal.invariant-loop-k
 invariant-loop-k l =
     (l.k ≤ l.n - 1) × (l.size ≤ 10 * l.k) × Counted (row_bytes l.n l.j l.row 0 l.table) (row_bytes l.n l.j l.row l.k l.table) l.size
-
-abbrev pub decreases-loop-k : goal.decreases-loop-k
-decreases-loop-k l = l.n - l.k

@@ -1,7 +1,7 @@
 -- `writer::write_book` meets its contract. The invariant: with the processes left written as well, all processes stand
 -- behind their number, and the start carried to the next process is its first row.
 use mathlib.Core.List.{List}
-use Prim.Native.Nat.{ℕ, ◌-◌, ◌≤◌}
+use Prim.Native.Nat.{ℕ, ◌≤◌}
 use Rattle.book.specs.declared.Shape.{Shape}
 use Rattle.book.specs.Starts.{RowStart}
 use Rattle.writer.specs.Parts.{processes_bytes}
@@ -16,6 +16,3 @@ pub record Written (shape : Shape) (sent received out₀ : List ℕ) (next₀ : 
 abbrev pub invariant-loop-j : goal.invariant-loop-j
 invariant-loop-j l =
     Written (record { n = l.n; counts = l.counts }) l.sent l.received l.initial.out l.initial.next l.out l.next l.first l.j
-
-abbrev pub decreases-loop-j : goal.decreases-loop-j
-decreases-loop-j l = l.n - l.j

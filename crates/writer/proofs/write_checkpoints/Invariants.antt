@@ -9,6 +9,3 @@ abbrev pub invariant-loop-r : goal.invariant-loop-r
 invariant-loop-r l =
     (l.r ≤ l.count)
     × Put (checkpoints_bytes l.n l.j l.first l.count l.sent l.received) l.initial.out l.at (checkpoints_bytes l.n l.j (l.first + l.r) (l.count - l.r) l.sent l.received) l.out l.next
-
-abbrev pub decreases-loop-r : goal.decreases-loop-r
-decreases-loop-r l = l.count - l.r

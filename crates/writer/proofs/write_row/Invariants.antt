@@ -8,6 +8,3 @@ use Rattle.writer.proofs.write_row.Given as goal
 abbrev pub invariant-loop-k : goal.invariant-loop-k
 invariant-loop-k l =
     (l.k ≤ l.n - 1) × Put (row_bytes l.n l.j l.row 0 l.table) l.initial.out l.at (row_bytes l.n l.j l.row l.k l.table) l.out l.next
-
-abbrev pub decreases-loop-k : goal.decreases-loop-k
-decreases-loop-k l = l.n - l.k

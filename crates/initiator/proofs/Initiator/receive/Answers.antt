@@ -1,220 +1,181 @@
 -- `receive` meets its contract: at each return the tests that led there say which question fails first.
 use mathlib.Core.Path.{◌≡◌, refl, sym, ap, ◌∙◌}
 use mathlib.Core.Bool.{true}
-use mathlib.Core.List.{List}
-use Prim.Native.Nat.{ℕ, ◌-◌, ◌≤◌}
+use Prim.Native.Nat.{◌-◌, ◌≤◌}
 use native.Mathlib.Omega.{arith}
 use borrow.Author.Rules.{rules}
-use borrow.Author.Tests.{not-true, not-false}
-use lib.ListN.{length}
 use Rattle.book.specs.declared.Shape.{Shape}
+use Rattle.book.specs.declared.Question.TheVariants.{MessageFormed}
 use Rattle.book.specs.Lent.{lent}
-use Rattle.book.specs.Check.{tables_question}
 use Rattle.book.specs.Accepted.{AreAccepted}
+use Rattle.book.proofs.Refusals.{refused_by, is_accepted, value_is}
 use Rattle.book.proofs.Starts.{rows_accepted}
 use Rattle.line_theory.proofs.Accepted.{accepted_size, accepted_few}
-use Rattle.message.specs.declared.Message.{Message}
 use Rattle.message.specs.Formed.{message_formed}
-use Rattle.message.specs.Read.{message_read}
 use Rattle.machine.specs.Own.{own_of}
-use Rattle.machine.proofs.Answers.{at_first, at_second, at_third, at_room, at_end}
-use Rattle.initiator.specs.declared.Initiator.{Initiator}
-use Rattle.initiator.specs.Calls.{own_of_state, state_question, message_question, step_on}
+use Rattle.machine.proofs.Answers.{err_is}
+use Rattle.initiator.specs.Calls.{own_of_state, read_by, state_question}
 use Rattle.initiator.proofs.Fitting.{fitting_size, fitting_rounds}
-use Rattle.initiator.proofs.Calls.{sender_there, state_named, state_fits, not_formed, is_formed, step_on_lem, answer_received}
+use Rattle.initiator.proofs.Calls.{sender_there, state_named, state_fits, not_formed, is_formed, formed_asked, step_on_lem, by_tables, by_state, by_message, by_room, at_last}
 use Rattle.initiator.proofs.Initiator.receive.Goals as goal
+use Rattle.initiator.proofs.Initiator.receive.Goals.{In_ok-check, After-state_question, In_ok-state_question, In-Some}
 
 -- ---- the tables
 
-pub returns-then-question-ne0 : goal.returns-then-question-ne0
-returns-then-question-ne0 c =
+pub returns-in_err-check : goal.returns-in_err-check
+returns-in_err-check c =
     let a = c.args in
-    let tables = lent a.shape a.sent.now a.received.now in
-    let step = step_on tables a.self a.s.now in
-    let question = c.question-question in
-    let told = c.refused in
-    let all =
-    answer_received tables a.self a.s.now a.out.now step told.result a.out.now refl
-    (at_first (tables_question tables) (state_question a.shape.n (own_of_state tables a.self) a.self) (message_question a.shape.n a.self a.s.now) a.self step.state step.outgoing a.out.now question.result told.result.answer told.result.state told.result.lengths c.if-question-ne0.true
-    told.ensures
-    question.ensures) in
-    record { answer_value = all.0; state_value = all.1.0; lengths_value = all.1.1.0; out_after = all.1.1.1 }
+    let whole =
+    by_tables (lent a.shape a.sent.now a.received.now) a.self a.s.now a.out.now c.from_residual.result c.in_err-check.field-0.0
+    (err_is _ _ c.from_residual.ensures.1 (λ f same. same))
+    (refused_by _ _ c.check.ensures c.in_err-check.was) in
+    record { answer = whole.0; out_after = whole.1 }
 
-accepted : (shape : Shape) (sent received : List ℕ) (found : ℕ) → length shape.counts ≡ 16 → found ≡ tables_question (lent shape sent received)
-    → found ≡ 0 → AreAccepted (lent shape sent received)
-accepted shape sent received found long e none = record { sixteen = long; passed = sym e ∙ none }
+accepted : (c : In_ok-check) → let a = c.args in AreAccepted (lent a.shape a.sent.now a.received.now)
+accepted c = record { sixteen = search rules; passed = is_accepted _ _ c.check.ensures c.in_ok-check.was }
 
 -- ---- the state
 
 pub rows_of-rows-requires : goal.rows_of-rows-requires
-rows_of-rows-requires c =
-    let a = c.args in
-    accepted_few (accepted a.shape a.sent.now a.received.now c.question-question.result (search rules) c.question-question.ensures c.if-question-ne0.false)
+rows_of-rows-requires c = accepted_few (accepted (goal.at.rows_of-rows-requires c).In_ok-check)
 
-pub state_question-question-requires : goal.state_question-question-requires
-state_question-question-requires c =
-    let a = c.args in
-    rows_accepted
-    (accepted a.shape a.sent.now a.received.now c.question-question.result (search rules) c.question-question.ensures c.if-question-ne0.false)
-    c.rows_of-rows.ensures
+pub state_question-requires : goal.state_question-requires
+state_question-requires c = rows_accepted (accepted (goal.at.state_question-requires c).In_ok-check) c.rows_of-rows.ensures
 
 -- the question of the rows' shape is that of the tables
-state_is : (shape rows : Shape) (sent received : List ℕ) (state : Initiator) (found : ℕ)
-    → found ≡ state_question rows.n (own_of (lent rows sent received) (state.me.0 - 1)) state → rows ≡ shape
-    → found ≡ state_question shape.n (own_of_state (lent shape sent received) state) state
-state_is shape rows sent received state found e f =
-    e ∙ ap (λ (t : Shape). state_question t.n (own_of (lent t sent received) (state.me.0 - 1)) state) f
-
-pub returns-then-question-ne0-2 : goal.returns-then-question-ne0-2
-returns-then-question-ne0-2 c =
+state_is : (c : After-state_question)
+    → let a = c.args in
+    let rows = c.rows_of-rows.result in
+    state_question rows.shape.n (own_of (lent rows.shape a.sent.now a.received.now) (a.self.me.0 - 1)) a.self
+    ≡ state_question a.shape.n (own_of_state (lent a.shape a.sent.now a.received.now) a.self) a.self
+state_is c =
     let a = c.args in
-    let tables = lent a.shape a.sent.now a.received.now in
-    let step = step_on tables a.self a.s.now in
-    let question = c.state_question-question in
-    let rows = c.rows_of-rows in
-    let told = c.refused-then-question-ne0-2 in
-    let all =
-    answer_received tables a.self a.s.now a.out.now step told.result a.out.now refl
-    (at_second (tables_question tables) (state_question a.shape.n (own_of_state tables a.self) a.self) (message_question a.shape.n a.self a.s.now) a.self step.state step.outgoing a.out.now question.result told.result.answer told.result.state told.result.lengths c.if-question-ne0-2.true
-    told.ensures
-    (sym c.question-question.ensures ∙ c.if-question-ne0.false)
-    (state_is a.shape rows.result.shape a.sent.now a.received.now a.self question.result question.ensures rows.ensures.0)) in
-    record { answer_value = all.0; state_value = all.1.0; lengths_value = all.1.1.0; out_after = all.1.1.1 }
+    ap (λ (t : Shape). state_question t.n (own_of (lent t a.sent.now a.received.now) (a.self.me.0 - 1)) a.self) c.rows_of-rows.ensures.0
+
+pub returns-in_err-state_question : goal.returns-in_err-state_question
+returns-in_err-state_question c =
+    let a = c.args in
+    let at = goal.at.returns-in_err-state_question c in
+    let whole =
+    by_state (lent a.shape a.sent.now a.received.now) a.self a.s.now a.out.now c.from_residual-in_err-state_question.result
+    c.in_err-state_question.field-0.0
+    (err_is _ _ c.from_residual-in_err-state_question.ensures.1 (λ f same. same))
+    (accepted at.In_ok-check).passed
+    (sym (state_is at.After-state_question) ∙ refused_by _ _ c.state_question.ensures c.in_err-state_question.was) in
+    record { answer = whole.0; out_after = whole.1 }
+
+passes : (c : In_ok-state_question)
+    → let a = c.args in
+    state_question a.shape.n (own_of_state (lent a.shape a.sent.now a.received.now) a.self) a.self ≡ 0
+passes c =
+    let a = c.args in
+    sym (ap (λ (t : Shape). state_question t.n (own_of (lent t a.sent.now a.received.now) (a.self.me.0 - 1)) a.self) c.rows_of-rows.ensures.0)
+    ∙ is_accepted _ _ c.state_question.ensures c.in_ok-state_question.was
 
 -- ---- the message
 
-pub read_message-read-requires : goal.read_message-read-requires
-read_message-read-requires c =
-    let a = c.args in
-    (accepted_size (accepted a.shape a.sent.now a.received.now c.question-question.result (search rules) c.question-question.ensures c.if-question-ne0.false)).1
+pub read_message-requires : goal.read_message-requires
+read_message-requires c = (accepted_size (accepted (goal.at.read_message-requires c).In_ok-check)).1
 
-pub returns-then-not-read : goal.returns-then-not-read
-returns-then-not-read c =
+pub returns-in_default : goal.returns-in_default
+returns-in_default c =
     let a = c.args in
-    let tables = lent a.shape a.sent.now a.received.now in
-    let step = step_on tables a.self a.s.now in
-    let question = c.state_question-question in
-    let rows = c.rows_of-rows in
-    let read = c.read_message-read in
-    let told = c.refused-then-not-read in
-    let all =
-    answer_received tables a.self a.s.now a.out.now step told.result a.out.now refl
-    (at_third (tables_question tables) (state_question a.shape.n (own_of_state tables a.self) a.self) (message_question a.shape.n a.self a.s.now) a.self step.state step.outgoing a.out.now 14 told.result.answer told.result.state told.result.lengths (λ z. absurd (omega arith))
-    told.ensures
-    (sym c.question-question.ensures ∙ c.if-question-ne0.false)
-    (sym (state_is a.shape rows.result.shape a.sent.now a.received.now a.self question.result question.ensures rows.ensures.0) ∙ c.if-question-ne0-2.false)
-    (not_formed a.shape.n a.self a.s.now (sym read.ensures.formed_value ∙ not-true read.result.formed c.if-not-read.true))) in
-    record { answer_value = all.0; state_value = all.1.0; lengths_value = all.1.1.0; out_after = all.1.1.1 }
+    let at = goal.at.returns-in_default c in
+    let whole =
+    by_message (lent a.shape a.sent.now a.received.now) a.self a.s.now a.out.now _ MessageFormed refl (accepted at.In_ok-check).passed
+    (passes at.In_ok-state_question)
+    (not_formed a.shape.n a.self a.s.now c.read_message.result c.read_message.ensures c.in_default.is) in
+    record { answer = whole.0; out_after = whole.1 }
 
--- the sender is a process that there is
-sender : (n me : ℕ) (s : List ℕ) (m : Message) → n ≤ 16 → message_formed n me me s ≡ true → m ≡ message_read n me me s
-    → (1 ≤ m.head.sender.0) × (m.head.sender.0 ≤ 16)
-sender n me s m few formed e = let named = sender_there n me me s m formed e in (named.0, omega (arith, named))
+-- the message is formed, and the one that was read
+is-read : (c : In-Some)
+    → let a = c.args in
+    (message_formed a.shape.n a.self.me.0 a.self.me.0 a.s.now ≡ true) × (c.in-Some.message ≡ read_by a.shape.n a.self a.s.now)
+is-read c = let a = c.args in is_formed a.shape.n a.self a.s.now c.read_message.result c.in-Some.message c.read_message.ensures c.in-Some.is
 
-pub awaited_question-question-requires : goal.awaited_question-question-requires
-awaited_question-question-requires c =
+-- its sender is a process that there is
+sender : (c : In-Some) → let m = c.in-Some.message in (1 ≤ m.head.sender.0) × (m.head.sender.0 ≤ 16)
+sender c =
     let a = c.args in
-    let tables = lent a.shape a.sent.now a.received.now in
-    let question = c.state_question-question in
-    let rows = c.rows_of-rows in
-    let read = c.read_message-read in
-    let size = accepted_size (accepted a.shape a.sent.now a.received.now c.question-question.result (search rules) c.question-question.ensures c.if-question-ne0.false) in
-    let passes = sym (state_is a.shape rows.result.shape a.sent.now a.received.now a.self question.result question.ensures rows.ensures.0) ∙ c.if-question-ne0-2.false in
-    let fit = fitting_size (own_of_state tables a.self) a.self (state_fits a.shape.n (own_of_state tables a.self) a.self passes) in
-    record {
-      le_sender = sender a.shape.n a.self.me.0 a.s.now read.result.message size.1 (sym read.ensures.formed_value ∙ not-false read.result.formed c.if-not-read.false) read.ensures.message_value;
-      le_n = omega (arith, fit, size);
-    }
+    let read = is_formed a.shape.n a.self a.s.now c.read_message.result c.in-Some.message c.read_message.ensures c.in-Some.is in
+    let named = sender_there a.shape.n a.self.me.0 a.self.me.0 a.s.now c.in-Some.message read.0 read.1 in
+    let all : AreAccepted (lent a.shape a.sent.now a.received.now) =
+    record { sixteen = search rules; passed = is_accepted _ _ c.check.ensures c.in_ok-check.was } in
+    let size = accepted_size all in
+    (named.0, omega (arith, named, size))
 
-pub returns-then-question-ne0-3 : goal.returns-then-question-ne0-3
-returns-then-question-ne0-3 c =
+pub awaited_question-requires : goal.awaited_question-requires
+awaited_question-requires c =
     let a = c.args in
-    let tables = lent a.shape a.sent.now a.received.now in
-    let step = step_on tables a.self a.s.now in
-    let question = c.state_question-question in
-    let rows = c.rows_of-rows in
-    let read = c.read_message-read in
-    let asked = c.awaited_question-question in
-    let told = c.refused-then-question-ne0-3 in
-    let all =
-    answer_received tables a.self a.s.now a.out.now step told.result a.out.now refl
-    (at_third (tables_question tables) (state_question a.shape.n (own_of_state tables a.self) a.self) (message_question a.shape.n a.self a.s.now) a.self step.state step.outgoing a.out.now asked.result told.result.answer told.result.state told.result.lengths c.if-question-ne0-3.true
-    told.ensures
-    (sym c.question-question.ensures ∙ c.if-question-ne0.false)
-    (sym (state_is a.shape rows.result.shape a.sent.now a.received.now a.self question.result question.ensures rows.ensures.0) ∙ c.if-question-ne0-2.false)
-    (is_formed a.shape.n a.self a.s.now read.result.message asked.result (sym read.ensures.formed_value ∙ not-false read.result.formed c.if-not-read.false) read.ensures.message_value asked.ensures)) in
-    record { answer_value = all.0; state_value = all.1.0; lengths_value = all.1.1.0; out_after = all.1.1.1 }
+    let at = goal.at.awaited_question-requires c in
+    let own = own_of_state (lent a.shape a.sent.now a.received.now) a.self in
+    let size = accepted_size (accepted at.In_ok-check) in
+    let fit = fitting_size own a.self (state_fits a.shape.n own a.self (passes at.In_ok-state_question)) in
+    record { le_sender = sender at.In-Some; le_n = omega (arith, fit, size) }
+
+pub returns-in_err-awaited_question : goal.returns-in_err-awaited_question
+returns-in_err-awaited_question c =
+    let a = c.args in
+    let at = goal.at.returns-in_err-awaited_question c in
+    let read = is-read at.In-Some in
+    let whole =
+    by_message (lent a.shape a.sent.now a.received.now) a.self a.s.now a.out.now c.from_residual-in_err-awaited_question.result
+    c.in_err-awaited_question.field-0.0
+    (err_is _ _ c.from_residual-in_err-awaited_question.ensures.1 (λ f same. same))
+    (accepted at.In_ok-check).passed
+    (passes at.In_ok-state_question)
+    (sym (formed_asked a.shape.n a.self a.s.now c.in-Some.message read.0 read.1)
+    ∙ refused_by _ _ c.awaited_question.ensures c.in_err-awaited_question.was) in
+    record { answer = whole.0; out_after = whole.1 }
 
 -- ---- the room
 
 pub step-next-requires : goal.step-next-requires
 step-next-requires c =
     let a = c.args in
-    let tables = lent a.shape a.sent.now a.received.now in
-    let own = own_of_state tables a.self in
-    let question = c.state_question-question in
-    let rows = c.rows_of-rows in
-    let read = c.read_message-read in
-    let are : AreAccepted tables =
-    accepted a.shape a.sent.now a.received.now c.question-question.result (search rules) c.question-question.ensures c.if-question-ne0.false in
-    let passes = sym (state_is a.shape rows.result.shape a.sent.now a.received.now a.self question.result question.ensures rows.ensures.0) ∙ c.if-question-ne0-2.false in
+    let at = goal.at.step-next-requires c in
+    let own = own_of_state (lent a.shape a.sent.now a.received.now) a.self in
+    let pass = passes at.In_ok-state_question in
     record {
-      accepted_rows = (rows_accepted are rows.ensures, rw rows.ensures.0 (state_named a.shape.n own a.self passes));
-      le_sender = sender a.shape.n a.self.me.0 a.s.now read.result.message (accepted_size are).1 (sym read.ensures.formed_value ∙ not-false read.result.formed c.if-not-read.false) read.ensures.message_value;
-      rounds_lt_tally_limit = fitting_rounds own a.self (state_fits a.shape.n own a.self passes);
+      accepted_rows = (rows_accepted (accepted at.In_ok-check) c.rows_of-rows.ensures, rw c.rows_of-rows.ensures.0 (state_named a.shape.n own a.self pass));
+      le_sender = sender at.In-Some;
+      rounds_lt_tally_limit = fitting_rounds own a.self (state_fits a.shape.n own a.self pass);
     }
 
-pub returns-then-done-ne0 : goal.returns-then-done-ne0
-returns-then-done-ne0 c =
+pub returns-in_err-lengths : goal.returns-in_err-lengths
+returns-in_err-lengths c =
     let a = c.args in
     let tables = lent a.shape a.sent.now a.received.now in
-    let question = c.state_question-question in
-    let rows = c.rows_of-rows in
-    let read = c.read_message-read in
-    let asked = c.awaited_question-question in
-    let next = c.step-next.result in
-    let sent = c.send-done in
-    let told = c.refused-then-done-ne0 in
-    let all =
-    answer_received tables a.self a.s.now a.out.now next told.result sent.new.out
-    (step_on_lem tables a.self a.s.now rows.result read.result.message next rows.ensures.0 read.ensures.message_value c.step-next.ensures)
-    (at_room (tables_question tables) (state_question a.shape.n (own_of_state tables a.self) a.self) (message_question a.shape.n a.self a.s.now) a.self next.state next.outgoing a.out.now
-    (sym c.question-question.ensures ∙ c.if-question-ne0.false)
-    (sym (state_is a.shape rows.result.shape a.sent.now a.received.now a.self question.result question.ensures rows.ensures.0) ∙ c.if-question-ne0-2.false)
-    (sym (is_formed a.shape.n a.self a.s.now read.result.message asked.result (sym read.ensures.formed_value ∙ not-false read.result.formed c.if-not-read.false) read.ensures.message_value asked.ensures)
-    ∙ c.if-question-ne0-3.false)
-    sent.result.question
-    sent.new.out
-    sent.ensures.question_value
-    sent.ensures.out_after
-    told.result.answer told.result.state told.result.lengths
-    c.if-done-ne0.true
-    told.ensures) in
-    record { answer_value = all.0; state_value = all.1.0; lengths_value = all.1.1.0; out_after = all.1.1.1 }
+    let at = goal.at.returns-in_err-lengths c in
+    let read = is-read at.In-Some in
+    let whole =
+    by_room tables a.self a.s.now a.out.now (accepted at.In_ok-check).passed
+    (passes at.In_ok-state_question)
+    (sym (formed_asked a.shape.n a.self a.s.now c.in-Some.message read.0 read.1)
+    ∙ is_accepted _ _ c.awaited_question.ensures c.in_ok-awaited_question.was)
+    c.step-next.result c.send.new.out
+    (step_on_lem tables a.self a.s.now c.rows_of-rows.result c.in-Some.message c.step-next.result c.rows_of-rows.ensures.0 read.1 c.step-next.ensures)
+    c.send.ensures.out_after
+    c.from_residual-in_err-lengths.result c.in_err-lengths.field-0.0
+    (err_is _ _ c.from_residual-in_err-lengths.ensures.1 (λ f same. same))
+    (refused_by _ _ c.send.ensures.answer c.in_err-lengths.was) in
+    record { answer = whole.0; out_after = whole.1 }
 
 pub returns : goal.returns
 returns c =
     let a = c.args in
     let tables = lent a.shape a.sent.now a.received.now in
-    let question = c.state_question-question in
-    let rows = c.rows_of-rows in
-    let read = c.read_message-read in
-    let asked = c.awaited_question-question in
-    let next = c.step-next.result in
-    let sent = c.send-done in
-    let all =
-    answer_received tables a.self a.s.now a.out.now next _ sent.new.out
-    (step_on_lem tables a.self a.s.now rows.result read.result.message next rows.ensures.0 read.ensures.message_value c.step-next.ensures)
-    (at_end (tables_question tables) (state_question a.shape.n (own_of_state tables a.self) a.self) (message_question a.shape.n a.self a.s.now) a.self next.state next.outgoing a.out.now
-    (sym c.question-question.ensures ∙ c.if-question-ne0.false)
-    (sym (state_is a.shape rows.result.shape a.sent.now a.received.now a.self question.result question.ensures rows.ensures.0) ∙ c.if-question-ne0-2.false)
-    (sym (is_formed a.shape.n a.self a.s.now read.result.message asked.result (sym read.ensures.formed_value ∙ not-false read.result.formed c.if-not-read.false) read.ensures.message_value asked.ensures)
-    ∙ c.if-question-ne0-3.false)
-    sent.result.question
-    sent.new.out
-    sent.ensures.question_value
-    sent.ensures.out_after
-    sent.result.lengths
-    c.if-done-ne0.false
-    sent.ensures.lengths_value) in
-    record { answer_value = all.0; state_value = all.1.0; lengths_value = all.1.1.0; out_after = all.1.1.1 }
+    let at = goal.at.returns c in
+    let read = is-read at.In-Some in
+    let whole =
+    at_last tables a.self a.s.now a.out.now (accepted at.In_ok-check).passed
+    (passes at.In_ok-state_question)
+    (sym (formed_asked a.shape.n a.self a.s.now c.in-Some.message read.0 read.1)
+    ∙ is_accepted _ _ c.awaited_question.ensures c.in_ok-awaited_question.was)
+    c.step-next.result c.send.new.out
+    (step_on_lem tables a.self a.s.now c.rows_of-rows.result c.in-Some.message c.step-next.result c.rows_of-rows.ensures.0 read.1 c.step-next.ensures)
+    c.send.ensures.out_after
+    c.in_ok-lengths.lengths
+    (is_accepted _ _ c.send.ensures.answer c.in_ok-lengths.was)
+    (value_is _ _ c.send.ensures.answer c.in_ok-lengths.was) in
+    record { answer = whole.0; out_after = whole.1 }

@@ -1,10 +1,12 @@
 -- `state_question` meets its contract.
-use mathlib.Core.Path.{sym, ◌∙◌}
+use mathlib.Core.Path.{refl, sym, ◌∙◌}
 use Prim.Native.Nat.{◌-◌}
 use native.Mathlib.Omega.{arith}
 use Rattle.book.specs.Lent.{lent}
 use Rattle.book.specs.Names.{is_named, is_purpose}
+use Rattle.book.specs.declared.Question.TheVariants.{Named, Purpose, StateFits}
 use Rattle.book.proofs.Names.{named_in}
+use Rattle.book.proofs.Refusals.{refuses, accepts}
 use Rattle.machine.specs.Own.{own_of}
 use Rattle.machine.proofs.Answers.{first_no, second_no, third_no, all_yes}
 use Rattle.initiator.specs.Fits.{fits}
@@ -14,17 +16,17 @@ pub returns-then-not-is_named : goal.returns-then-not-is_named
 returns-then-not-is_named c =
     let a = c.args in
     let fitting = fits (own_of (lent a.rows.shape a.sent.now a.received.now) (a.self.me.0 - 1)) a.self in
-    first_no 10 11 13 (is_named a.rows.shape.n a.self.me.0) (is_purpose a.self.purpose) fitting (omega arith)
-    (sym c.is_named.ensures ∙ c.if-not-is_named.true)
+    refuses Named tt (sym (first_no 10 11 13 (is_named a.rows.shape.n a.self.me.0) (is_purpose a.self.purpose) fitting (omega arith)
+    (sym c.is_named.ensures ∙ c.if-not-is_named.true)))
 
 pub returns-then-not-is_purpose : goal.returns-then-not-is_purpose
 returns-then-not-is_purpose c =
     let a = c.args in
     let fitting = fits (own_of (lent a.rows.shape a.sent.now a.received.now) (a.self.me.0 - 1)) a.self in
-    second_no 10 11 13 (is_named a.rows.shape.n a.self.me.0) (is_purpose a.self.purpose) fitting
+    refuses Purpose tt (sym (second_no 10 11 13 (is_named a.rows.shape.n a.self.me.0) (is_purpose a.self.purpose) fitting
     (sym c.is_named.ensures ∙ c.if-not-is_named.false)
     (omega arith)
-    (sym c.is_purpose.ensures ∙ c.if-not-is_purpose.true)
+    (sym c.is_purpose.ensures ∙ c.if-not-is_purpose.true)))
 
 pub fits-requires : goal.fits-requires
 fits-requires c =
@@ -35,16 +37,16 @@ pub returns-then-not-fits : goal.returns-then-not-fits
 returns-then-not-fits c =
     let a = c.args in
     let fitting = fits (own_of (lent a.rows.shape a.sent.now a.received.now) (a.self.me.0 - 1)) a.self in
-    third_no 10 11 13 (is_named a.rows.shape.n a.self.me.0) (is_purpose a.self.purpose) fitting
+    refuses StateFits tt (sym (third_no 10 11 13 (is_named a.rows.shape.n a.self.me.0) (is_purpose a.self.purpose) fitting
     (sym c.is_named.ensures ∙ c.if-not-is_named.false)
     (sym c.is_purpose.ensures ∙ c.if-not-is_purpose.false)
-    (sym c.fits.ensures ∙ c.if-not-fits.true)
+    (sym c.fits.ensures ∙ c.if-not-fits.true)))
 
 pub returns : goal.returns
 returns c =
     let a = c.args in
     let fitting = fits (own_of (lent a.rows.shape a.sent.now a.received.now) (a.self.me.0 - 1)) a.self in
-    all_yes 10 11 13 (is_named a.rows.shape.n a.self.me.0) (is_purpose a.self.purpose) fitting
+    accepts (sym (all_yes 10 11 13 (is_named a.rows.shape.n a.self.me.0) (is_purpose a.self.purpose) fitting
     (sym c.is_named.ensures ∙ c.if-not-is_named.false)
     (sym c.is_purpose.ensures ∙ c.if-not-is_purpose.false)
-    (sym c.fits.ensures ∙ c.if-not-fits.false)
+    (sym c.fits.ensures ∙ c.if-not-fits.false))) refl

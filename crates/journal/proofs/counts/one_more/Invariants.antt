@@ -1,5 +1,5 @@
 -- `one_more` meets its contract. The invariant: the counts so far have been added to.
-use Prim.Native.Nat.{◌+◌, ◌-◌}
+use Prim.Native.Nat.{◌+◌}
 use lib.ListN.{get_or}
 use lib.Dec.{eqb}
 use Rattle.lists.specs.Pick.{pick}
@@ -9,6 +9,3 @@ use Rattle.journal.proofs.counts.one_more.Given as goal
 
 abbrev pub invariant-loop-q : goal.invariant-loop-q
 invariant-loop-q l = Filled 0 l.counts most_processes (λ i. get_or l.counts i 0 + pick (eqb i l.p) 1 0) l.next l.q
-
-abbrev pub decreases-loop-q : goal.decreases-loop-q
-decreases-loop-q l = most_processes - l.q

@@ -20,5 +20,5 @@ returns-in_default c =
     let passed = (journal_passed _ _ _ c.requires.received_value).numbers in absurd (journal_leads _ passed (sym c.in_default.ensures))
 
 pub put_events-requires : goal.put_events-requires
-put_events-requires c = to_fill _ _ _ _ c.requires.received_value c.requires.shape_value _ _ (sym c.in-Number.ensures) _
+put_events-requires c = to_fill _ _ _ _ c.requires.received_value c.requires.shape_value _ _ (sym c.in-Some.ensures) _
     c.rows_of-rows.ensures.1 _ _ c.clear.ensures c.clear-2.ensures

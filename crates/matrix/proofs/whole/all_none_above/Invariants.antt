@@ -5,6 +5,3 @@ use Rattle.matrix.proofs.whole.all_none_above.Given as goal
 
 abbrev pub invariant-loop-i : goal.invariant-loop-i
 invariant-loop-i l = Below l.matrix l.copy l.below l.i
-
-abbrev pub decreases-loop-i : goal.decreases-loop-i
-decreases-loop-i l = 256 - l.i

@@ -9,6 +9,3 @@ use Rattle.matrix.proofs.whole.all_not_known.Given as goal
 
 abbrev pub invariant-loop-j : goal.invariant-loop-j
 invariant-loop-j l = Before 16 (λ k. same (row l.matrix k) (not_known_row l.n k) ≡ true) l.j
-
-abbrev pub decreases-loop-j : goal.decreases-loop-j
-decreases-loop-j l = 16 - l.j

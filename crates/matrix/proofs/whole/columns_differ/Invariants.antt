@@ -5,6 +5,3 @@ use Rattle.matrix.proofs.whole.columns_differ.Given as goal
 
 abbrev pub invariant-loop-i : goal.invariant-loop-i
 invariant-loop-i l = Differ l.matrix l.copy l.differ l.i
-
-abbrev pub decreases-loop-i : goal.decreases-loop-i
-decreases-loop-i l = 256 - l.i

@@ -10,6 +10,3 @@ use Rattle.matrix.proofs.whole.invitations.Given as goal
 
 abbrev pub invariant-loop-i : goal.invariant-loop-i
 invariant-loop-i l = Filled (tally 0) l.initial.news 256 (λ k. tally (pick (eqb (k % 16) l.own) (counters l.sent (k / 16)) mark)) l.news l.i
-
-abbrev pub decreases-loop-i : goal.decreases-loop-i
-decreases-loop-i l = 256 - l.i

@@ -1,11 +1,9 @@
 -- `or_differ` meets its contract.
-use borrow.Author.Tests.{eq-eqb, ne_eqb}
+use mathlib.Core.Path.{sym, ◌∙◌}
 use Rattle.matrix.proofs.whole.or_differ.Goals as goal
 
-pub returns-then-x-y : goal.returns-then-x-y
-returns-then-x-y c = let a = c.args in
-    rw (ne_eqb a.x.0 a.y.0 c.if-x-y.true)
+pub returns-then-ne : goal.returns-then-ne
+returns-then-ne c = rw (← c.ne.ensures, c.if-ne.true)
 
-pub returns : goal.returns
-returns c = let a = c.args in
-    rw (eq-eqb a.x.0 a.y.0 c.if-x-y.false)
+pub returns-else-ne : goal.returns-else-ne
+returns-else-ne c = rw (← c.ne.ensures, c.if-ne.false)

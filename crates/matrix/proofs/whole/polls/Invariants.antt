@@ -8,6 +8,3 @@ use Rattle.matrix.proofs.whole.polls.Given as goal
 
 abbrev pub invariant-loop-i : goal.invariant-loop-i
 invariant-loop-i l = Filled (tally 0) l.initial.news 256 (λ k. tally (differing (entry l.matrix (k % 16) (k / 16)) (entry l.copy (k % 16) (k / 16)))) l.news l.i
-
-abbrev pub decreases-loop-i : goal.decreases-loop-i
-decreases-loop-i l = 256 - l.i

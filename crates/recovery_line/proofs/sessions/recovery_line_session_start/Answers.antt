@@ -1,9 +1,10 @@
 -- `recovery_line_session_start` meets its contract.
-use mathlib.Core.Path.{◌≡◌}
+use mathlib.Core.Path.{◌≡◌, refl, sym}
 use lib.ListN.{length}
 use Rattle.words.specs.Words.{shape_length}
 use Rattle.words.specs.Session.{session_length}
-use Rattle.recovery_line.proofs.Shells.{two_long}
+use Rattle.book.proofs.Refusals.{is_accepted, value_is}
+use Rattle.recovery_line.proofs.Shells.{two_long, question_is}
 use Rattle.recovery_line.proofs.SessionCalls.{start_wrong, start_done, start_refused}
 use Rattle.recovery_line.proofs.sessions.recovery_line_session_start.Goals as goal
 
@@ -19,23 +20,22 @@ shape_in-given-requires c = let long : let a = c.args in
     two_long shape_length session_length a.shape.now a.session.now c.two_question-question.ensures c.if-question-ne0.false in
     (long).0
 
-pub returns-then-question-ne0-2 : goal.returns-then-question-ne0-2
-returns-then-question-ne0-2 c = let a = c.args in
-    let whole = start_refused a.shape.now a.sent.now a.received.now a.initiator a.purpose a.session.now a.strands.now
-    c.two_question-question.ensures c.if-question-ne0.false c.shape_in-given.ensures c.number.ensures
-    c.number_of-question.ensures c.start-begun.ensures.answer_value c.start-begun.ensures.strands_after c.if-question-ne0-2.true in
-    record { value = whole.0; session_after = whole.1.0; strands_after = whole.1.1 }
-
 pub put_session-requires : goal.put_session-requires
 put_session-requires c = let long : let a = c.args in
     (length a.shape.now ≡ shape_length) × (length a.session.now ≡ session_length) = let a = c.args in
     two_long shape_length session_length a.shape.now a.session.now c.two_question-question.ensures c.if-question-ne0.false in
     (long).1
 
-pub returns : goal.returns
-returns c = let a = c.args in
+pub returns-in-Err : goal.returns-in-Err
+returns-in-Err c = let a = c.args in
+    let (same, some) = question_is _ _ c.start.ensures.answer c.in-Err.is c.number-in-Err.ensures in
+    let whole = start_refused a.shape.now a.sent.now a.received.now a.initiator a.purpose a.session.now a.strands.now
+    c.two_question-question.ensures c.if-question-ne0.false c.shape_in-given.ensures c.number.ensures same c.start.ensures.strands_after some in
+    record { value = whole.0; session_after = whole.1.0; strands_after = whole.1.1 }
+
+pub returns-in-Ok : goal.returns-in-Ok
+returns-in-Ok c = let a = c.args in
     let whole = start_done a.shape.now a.sent.now a.received.now a.initiator a.purpose a.session.now a.strands.now
-    c.two_question-question.ensures c.if-question-ne0.false c.shape_in-given.ensures c.number.ensures
-    c.number_of-question.ensures c.start-begun.ensures.answer_value c.start-begun.ensures.strands_after
-    c.if-question-ne0-2.false c.start-begun.ensures.session_value c.put_session.ensures in
+    c.two_question-question.ensures c.if-question-ne0.false c.shape_in-given.ensures c.number.ensures (sym (is_accepted _ _ c.start.ensures.answer c.in-Ok.is)) c.start.ensures.strands_after
+    refl (value_is _ _ c.start.ensures.answer c.in-Ok.is) c.put_session.ensures in
     record { value = whole.0; session_after = whole.1.0; strands_after = whole.1.1 }

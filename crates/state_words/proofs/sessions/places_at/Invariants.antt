@@ -11,6 +11,3 @@ use Rattle.state_words.proofs.sessions.places_at.Given as goal
 abbrev pub invariant-loop-k : goal.invariant-loop-k
 invariant-loop-k l =
     Filled no_participant l.initial.places most_processes (λ j. participant_from (word l.words (place_start j)) l.words (place_start j)) l.places l.k
-
-abbrev pub decreases-loop-k : goal.decreases-loop-k
-decreases-loop-k l = most_processes - l.k

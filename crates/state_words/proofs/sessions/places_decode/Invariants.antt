@@ -10,6 +10,3 @@ use Rattle.state_words.proofs.sessions.places_decode.Given as goal
 
 abbrev pub invariant-loop-k : goal.invariant-loop-k
 invariant-loop-k l = Before most_processes (λ j. participant_decodes l.words (place_start j) ≡ true) l.k
-
-abbrev pub decreases-loop-k : goal.decreases-loop-k
-decreases-loop-k l = most_processes - l.k

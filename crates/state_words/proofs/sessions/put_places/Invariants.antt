@@ -6,6 +6,3 @@ use Rattle.state_words.proofs.sessions.put_places.Given as goal
 
 abbrev pub invariant-loop-k : goal.invariant-loop-k
 invariant-loop-k l = Placed l.places l.initial.words l.words l.k
-
-abbrev pub decreases-loop-k : goal.decreases-loop-k
-decreases-loop-k l = most_processes - l.k

@@ -1,11 +1,7 @@
 -- `tables::all_rising` meets its contract: `rising` is true only while no entry before i is lower than the one a row before.
-use Prim.Native.Nat.{◌-◌}
 use Rattle.tables.specs.Sound.{Rising}
 use Rattle.tables.proofs.Sweeps.{Swept}
 use Rattle.tables.proofs.quick.all_rising.Given as goal
 
 abbrev pub invariant-loop-i : goal.invariant-loop-i
 invariant-loop-i l = Swept (Rising l.table) l.from l.to l.i l.rising
-
-abbrev pub decreases-loop-i : goal.decreases-loop-i
-decreases-loop-i l = l.to - l.i

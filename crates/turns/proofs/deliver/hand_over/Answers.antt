@@ -1,18 +1,27 @@
 -- `hand_over` meets its contract.
-use mathlib.Core.Path.{sym, ap, ◌∙◌}
+use mathlib.Core.Path.{◌≡◌, sym, ◌∙◌}
+use native.Mathlib.Omega.{arith}
+use borrow.Author.Rules.{rules}
+use lib.ListN.{length}
 use Rattle.book.specs.Lent.{lent}
-use Rattle.session.specs.declared.Waiting.{Waiting}
-use Rattle.session.specs.Steps.{deliver}
-use Rattle.turns.proofs.Delivering.{report_passes}
+use Rattle.lists.proofs.Over.{at_place}
+use Rattle.line_theory.proofs.Accepted.{accepted_size}
+use Rattle.participant.specs.Calls.{no_participant}
+use Rattle.session.proofs.Places.{beyond}
+use Rattle.turns.proofs.Delivering.{report_passes, down_passes, down_there, down_read, handed_down}
 use Rattle.turns.proofs.deliver.hand_over.Goals as goal
 
-pub deliver_down-requires : goal.deliver_down-requires
-deliver_down-requires c = let at = c.requires.deliverable in
-    record { accepted_rows = (at.given, at.to_it); k_value = at.its_place; k_value_2 = at.its_initiator; le_initiator = at.there; k_bound = at.counted }
+pub read_message-requires : goal.read_message-requires
+read_message-requires c = omega (arith, accepted_size c.requires.deliverable.given.accepted)
 
-pub deliver_down-requires-in-Ending : goal.deliver_down-requires-in-Ending
-deliver_down-requires-in-Ending c = let at = c.requires.deliverable in
-    record { accepted_rows = (at.given, at.to_it); k_value = at.its_place; k_value_2 = at.its_initiator; le_initiator = at.there; k_bound = at.counted }
+pub unwrap-message-requires : goal.unwrap-message-requires
+unwrap-message-requires c = let a = c.args in
+    let pre = c.requires in
+    let long : length a.session.participants ≡ 16 = search rules in
+    down_there a.rows.shape.n a.session a.k a.s.now _
+    (at_place beyond no_participant a.session.participants a.k (omega (arith, long, pre.deliverable.counted.0)))
+    c.read_message.ensures
+    (down_passes a.rows.shape.n a.session a.k a.s.now pre.w_value c.in-Asking.is)
 
 pub deliver_up-requires : goal.deliver_up-requires
 deliver_up-requires c = let a = c.args in
@@ -21,22 +30,12 @@ deliver_up-requires c = let a = c.args in
     let passes = report_passes a.rows.shape.n a.session a.k a.s.now (sym pre.w_value ∙ c.in-Report.is) in
     record { accepted_rows = (at.given, at.to_initiator); me_value = at.own_place; s_value = passes; rounds_lt_tally_limit = at.rounds; k_bound = at.counted }
 
-pub returns-in-Nothing : goal.returns-in-Nothing
-returns-in-Nothing c = let a = c.args in
-    c.as_before.ensures ∙ ap (λ (w : Waiting). deliver (lent a.rows.shape a.sent.now a.received.now) a.session a.k a.s.now w) (sym c.in-Nothing.is)
-
 pub returns-in-Asking : goal.returns-in-Asking
 returns-in-Asking c = let a = c.args in
-    c.deliver_down.ensures ∙ ap (λ (w : Waiting). deliver (lent a.rows.shape a.sent.now a.received.now) a.session a.k a.s.now w) (sym c.in-Asking.is)
-
-pub returns-in-Ending : goal.returns-in-Ending
-returns-in-Ending c = let a = c.args in
-    c.deliver_down-in-Ending.ensures ∙ ap (λ (w : Waiting). deliver (lent a.rows.shape a.sent.now a.received.now) a.session a.k a.s.now w) (sym c.in-Ending.is)
-
-pub returns-in-Report : goal.returns-in-Report
-returns-in-Report c = let a = c.args in
-    c.deliver_up.ensures ∙ ap (λ (w : Waiting). deliver (lent a.rows.shape a.sent.now a.received.now) a.session a.k a.s.now w) (sym c.in-Report.is)
-
-pub returns-in-Stray : goal.returns-in-Stray
-returns-in-Stray c = let a = c.args in
-    c.as_before-in-Stray.ensures ∙ ap (λ (w : Waiting). deliver (lent a.rows.shape a.sent.now a.received.now) a.session a.k a.s.now w) (sym c.in-Stray.is)
+    let long : length a.session.participants ≡ 16 = search rules in
+    handed_down (lent a.rows.shape a.sent.now a.received.now) a.session a.k a.s.now c.in-Asking.is
+    (c.deliver_down.ensures a.s.now
+    (down_read a.rows.shape.n a.session a.k a.s.now _
+    (at_place beyond no_participant a.session.participants a.k (omega (arith, long, c.requires.deliverable.counted.0)))
+    c.read_message.ensures
+    c.unwrap-message.ensures))
