@@ -63,47 +63,47 @@ pub struct TableRows {
 #[derive(Clone, Copy, Debug, PartialEq, Eq)]
 pub enum Question {
     // Are there at most 65,536 book bytes?
-    BookBytes,
+    BookBytes = 1,
     // Has each table 4,096 entries?
-    TableEntries,
+    TableEntries = 2,
     // Is the number whole, shortest, at most 5 bytes and 4,294,967,295?
-    Number,
+    Number = 3,
     // Is n from 1 to 16?
-    Processes,
+    Processes = 4,
     // Is the count at least 1 and the sum so far at most 256?
-    Checkpoints,
+    Checkpoints = 5,
     // Is the counter other than the mark?
-    Mark,
+    Mark = 6,
     // Of a received counter: is it zero, in an oldest checkpoint?
-    OldestZero,
+    OldestZero = 7,
     // Is it no lower than the same counter one checkpoint before?
-    NoLower,
+    NoLower = 8,
     // Does nothing follow, and in tables, is everything unused zero?
-    Unused,
+    Unused = 9,
     // Is each process named from 1 to n (a participant: other than the initiator)?
-    Named,
+    Named = 10,
     // Is the purpose 1, 2 or 3?
-    Purpose,
+    Purpose = 11,
     // Does each named checkpoint exist?
-    Exists,
+    Exists = 12,
     // Does the state fit the tables?
-    StateFits,
+    StateFits = 13,
     // Is the message formed?
-    MessageFormed,
+    MessageFormed = 14,
     // Is it awaited here?
-    Awaited,
+    Awaited = 15,
     // Is each counter lower than the entry now held?
-    Lower,
+    Lower = 16,
     // Do the bytes to be written fit the buffer?
-    Room,
+    Room = 17,
     // Is a message waiting on that strand?
-    Waiting,
+    Waiting = 18,
     // Is the event formed?
-    EventFormed,
+    EventFormed = 19,
     // Of a receipt: is a message underway from the partner to the process?
-    Underway,
+    Underway = 20,
     // Is the list of what to send again formed?
-    ListFormed,
+    ListFormed = 21,
 }
 
 impl Question {
@@ -111,37 +111,8 @@ impl Question {
     pub fn number(self) -> u32
         ensures { result ≡ number self }
     {
-        match self {
-            Question::BookBytes => 1,
-            Question::TableEntries => 2,
-            Question::Number => 3,
-            Question::Processes => 4,
-            Question::Checkpoints => 5,
-            Question::Mark => 6,
-            Question::OldestZero => 7,
-            Question::NoLower => 8,
-            Question::Unused => 9,
-            Question::Named => 10,
-            Question::Purpose => 11,
-            Question::Exists => 12,
-            Question::StateFits => 13,
-            Question::MessageFormed => 14,
-            Question::Awaited => 15,
-            Question::Lower => 16,
-            Question::Room => 17,
-            Question::Waiting => 18,
-            Question::EventFormed => 19,
-            Question::Underway => 20,
-            Question::ListFormed => 21,
-        }
+        self as u32
     }
-}
-
-// An entry as a number of the book.
-pub fn wide(v: Counter) -> u64
-    ensures { result ≡ v }
-{
-    v as u64
 }
 
 // Is the purpose 1, 2 or 3 (question 11)?
@@ -205,8 +176,7 @@ pub fn entry_before(table: &[Counter], at: usize, oldest: bool) -> u64
     if oldest {
         0
     } else {
-        let row_before = at - ROW_WIDTH;
-        wide(table[row_before])
+        u64::from(table[at - ROW_WIDTH])
     }
 }
 
@@ -250,7 +220,5 @@ pub fn clear(table: &mut [Counter], from: usize, to: usize)
     requires { (from ≤ to) × (to ≤ length table.old) }
     ensures { table.new ≡ sets table.old from (replicate (to - from) 0) }
 {
-    for i in from..to {
-        table[i] = 0;
-    }
+    table[from..to].fill(0);
 }

@@ -59,7 +59,3 @@ module _ (n count : ℕ) (rows : ℕ → ℕ → ℕ) (known : ℕ → ℕ) (ris
   found_up r e m h =
       let next : fine (suc r) ≡ false = rw (add-one r) at h in
       sym (refused_from (suc r) (omega arith) m next ∙ (last_no fine r next ∙ e))
-
-  -- there is no next
-  pub found_last : (r : ℕ) → seek r ≡ r → r ≡ count → r ≡ seek count
-  found_last r e last = sym (ap seek (sym last) ∙ e)

@@ -4,16 +4,17 @@
 ghost use Rattle.std.specs.Prelude.{◌≡◌, ◌-◌, ◌≤◌};
 ghost use Rattle.book.specs.Lent.{lent};
 ghost use Rattle.book.specs.View.{count, R};
-ghost use Rattle.book.specs.Accepted.{AcceptedRows, IsProcess};
-ghost use Rattle.book.specs.InTurn.{answer_to};
+ghost use Rattle.book.specs.Accepted.{IsProcess};
 ghost use Rattle.book.specs.Numbers.{by_number};
+ghost use Rattle.accepted.specs.Holding.{tables_in};
 ghost use Rattle.line_theory.specs.Sets.{first_fault};
 ghost use Rattle.line_theory.specs.Search.{lowest_offending, newest};
 ghost use Rattle.line_theory.specs.OfTables.{view_of};
 ghost use Rattle.consistency.specs.Set.{chosen, is_there, all_there, shown_as, answer_to_test};
-ghost use Rattle.consistency.specs.Known.{counters, named_as, column_question, answer_to_column};
+ghost use Rattle.consistency.specs.Known.{counters, named_as, answer_to_column};
 ghost use Rattle.consistency.specs.Given.{Whole, Rises, AllNamed, AreSentTo, in_set};
 
+use accepted::Accepted;
 use book::{Checkpoint, Count, Counter, Process, Question, Shape, TableRows};
 
 // The lowest partner that offends: the received counter of process j's checkpoint r is higher than the known sent one. None
@@ -57,12 +58,10 @@ fn newest_permitted(
     requires from_bound { from.0 ≤ count rows.shape (j.0 - 1) }
     ensures { result.0 ≡ newest rows.shape.n (λ r p. R rows.shape received.now (j.0 - 1) r p) (counters known) from.0 }
 {
-    let mut r = from.0;
-    while 0 < r {
+    for r in (1..=from.0).rev() {
         if test_row(rows, received, j, Checkpoint(r), known).is_none() {
             return Checkpoint(r);
         }
-        r -= 1;
     }
     Checkpoint(0)
 }
@@ -99,14 +98,12 @@ fn upwards(
     let counts = shape.counts;
     let place = j.0 - 1;
     let count = counts[place];
-    let mut last = from.0;
-    while last < count {
+    for last in from.0..count {
         if test_row(rows, received, j, Checkpoint(last + 1), known).is_some() {
             return Checkpoint(last);
         }
-        last += 1;
     }
-    Checkpoint(last)
+    Checkpoint(count)
 }
 
 // The newest checkpoint of process j that the known sent counters permit, looked for from a number that is thought near: as
@@ -149,21 +146,15 @@ fn sent_to(rows: TableRows, sent: &[Counter], set: [Checkpoint; 16], j: Process)
 }
 
 // Process j's checkpoint in a set against what the others' have sent to it.
-fn test_in_set(
-    rows: TableRows,
-    sent: &[Counter],
-    received: &[Counter],
-    set: [Checkpoint; 16],
-    j: Process,
-) -> Option<Process>
-    requires accepted_rows { AcceptedRows rows sent.now received.now × IsProcess rows j.0 }
-    requires all_named { AllNamed rows.shape set }
-    ensures { result ≡ in_set (view_of (lent rows.shape sent.now received.now)) (chosen set) (j.0 - 1) }
+fn test_in_set(tables: &Accepted, set: [Checkpoint; 16], j: Process) -> Option<Process>
+    requires is_process { IsProcess tables.now.rows j.0 }
+    requires all_named { AllNamed tables.now.rows.shape set }
+    ensures { result ≡ in_set (view_of (tables_in tables.now)) (chosen set) (j.0 - 1) }
 {
-    let known = sent_to(rows, sent, set, j);
+    let known = sent_to(tables.rows, tables.sent, set, j);
     let i = j.0 - 1;
     let r = set[i];
-    test_row(rows, received, j, r, known)
+    test_row(tables.rows, tables.received, j, r, known)
 }
 
 // Does each named checkpoint exist (question 12)? Absent processes have 0.
@@ -196,19 +187,12 @@ fn is_there(present: bool, count: usize, r: Checkpoint) -> bool
 
 // The first pair at fault in a set, if there is one: (j, p) is when j's checkpoint received more from p than p's sent to j.
 // Processes are tested in turn, and each names its lowest partner: so the pair has the lowest j, and for it the lowest p.
-fn test_pairs(
-    rows: TableRows,
-    sent: &[Counter],
-    received: &[Counter],
-    set: [Checkpoint; 16],
-) -> Option<(Process, Process)>
-    requires { AcceptedRows rows sent.now received.now × AllNamed rows.shape set }
-    ensures { result ≡ shown_as (first_fault (view_of (lent rows.shape sent.now received.now)) (chosen set)) }
+fn test_pairs(tables: &Accepted, set: [Checkpoint; 16]) -> Option<(Process, Process)>
+    requires { AllNamed tables.now.rows.shape set }
+    ensures { result ≡ shown_as (first_fault (view_of (tables_in tables.now)) (chosen set)) }
 {
-    let shape = rows.shape;
-    let n = shape.n;
-    for j in 0..n {
-        if let Some(p) = test_in_set(rows, sent, received, set, Process(j + 1)) {
+    for j in 0..tables.rows.shape.n {
+        if let Some(p) = test_in_set(tables, set, Process(j + 1)) {
             return Some((Process(j + 1), p));
         }
     }
@@ -224,34 +208,11 @@ pub fn test_set(
 ) -> Result<Option<(Process, Process)>, Question>
     ensures { by_number result ≡ answer_to_test (lent shape sent.now received.now) set }
 {
-    tables::check(shape, sent, received)?;
+    let tables = accepted::accept(shape, sent, received)?;
     if !all_there(shape, set) {
         return Err(Question::Exists);
     }
-    let rows = book::rows_of(shape);
-    Ok(test_pairs(rows, sent, received, set))
-}
-
-// The questions of a test of one checkpoint: those of the tables, then 10 and 12.
-fn column_question(
-    shape: Shape,
-    sent: &[Counter],
-    received: &[Counter],
-    j: Process,
-    r: Checkpoint,
-) -> Result<(), Question>
-    ensures { by_number result ≡ answer_to (column_question (lent shape sent.now received.now) j.0 r.0) }
-{
-    tables::check(shape, sent, received)?;
-    if !book::is_named(shape.n, j.0) {
-        return Err(Question::Named);
-    }
-    let counts = shape.counts;
-    let place = j.0 - 1;
-    if !is_there(true, counts[place], r) {
-        return Err(Question::Exists);
-    }
-    Ok(())
+    Ok(test_pairs(&tables, set))
 }
 
 // The lowest partner from which process j's checkpoint r received more than is known to be sent to it, if there is one. The
@@ -266,7 +227,13 @@ pub fn test_checkpoint(
 ) -> Result<Option<Process>, Question>
     ensures { by_number result ≡ answer_to_column (lent shape sent.now received.now) j.0 r.0 known }
 {
-    column_question(shape, sent, received, j, r)?;
-    let rows = book::rows_of(shape);
-    Ok(test_row(rows, received, j, r, known))
+    let tables = accepted::accept(shape, sent, received)?;
+    if !book::is_named(shape.n, j.0) {
+        return Err(Question::Named);
+    }
+    let place = j.0 - 1;
+    if !is_there(true, shape.counts[place], r) {
+        return Err(Question::Exists);
+    }
+    Ok(test_row(tables.rows, tables.received, j, r, known))
 }

@@ -97,7 +97,7 @@ module _ (t : Tables) (session : Session) (p : Process) (strands : List ℕ)
     abbrev rows : TableRows
     rows = record { shape = t.shape; first = first_rows t.shape.counts }
 
-    given : Deliverable rows t.sent t.received session (p.0 - 1)
+    given : Deliverable rows session (p.0 - 1)
     given =
         deliverable rows t.sent t.received session strands (p.0 - 1)
         (record { accepted = turn_accepted; starts = refl }) fits (names.initiator_some, names.initiator_most) part_there

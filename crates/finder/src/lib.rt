@@ -6,7 +6,7 @@ ghost use Rattle.book.specs.View.{count};
 ghost use Rattle.book.specs.InTurn.{answer_with};
 ghost use Rattle.book.specs.Numbers.{by_number};
 ghost use Rattle.book.specs.Check.{tables_question};
-ghost use Rattle.book.specs.Accepted.{AcceptedRows};
+ghost use Rattle.accepted.specs.Holding.{tables_in};
 ghost use Rattle.line_theory.specs.Sets.{cut};
 ghost use Rattle.line_theory.specs.OfTables.{view_of};
 ghost use Rattle.consistency.specs.Set.{chosen};
@@ -14,6 +14,7 @@ ghost use Rattle.consistency.specs.Given.{AllNamed};
 ghost use Rattle.finder.specs.Line.{checkpoints, found_in, IsLineOf};
 ghost use Rattle.finder.specs.Steps.{AbsentZero, Named, SameSet, set_at, row_of, by_row, RowsGiven, ForSixteen, must_step_back, flagged, AreFlags, FlaggedBeside, SteppedBack, IsFirstFlagged};
 
+use accepted::Accepted;
 use book::{Checkpoint, Counter, Question, Shape, TableRows};
 
 // A line, and how many steps of one checkpoint back led to it.
@@ -145,8 +146,7 @@ fn first_flagged(flags: &[bool; 16], n: usize) -> usize
     n
 }
 
-// The line of the checkpoints up to those of a set, with the steps back from it. Inner: asks for the rows of accepted
-// tables and a set of theirs.
+// The line of the checkpoints up to those of a set, with the steps back from it. Inner: asks for a set of the tables.
 //
 // Only processes that must step back are flagged, and a step back flags exactly those that it puts at fault: so every pass
 // of the loop takes one checkpoint back for good, and there are as many passes as checkpoints passed from the given set (T,
@@ -154,28 +154,22 @@ fn first_flagged(flags: &[bool; 16], n: usize) -> usize
 // against the others' sent counters, and the others' against its own. With n rows for the first flags that is n + 2T rows,
 // twice as many entries; beside it up to n flags a pass. Nothing is copied in a pass: each process's row is known, and rows
 // and flags are lent. A sweep of all pairs for each step would be n rows instead of two.
-pub fn find_from(
-    rows: TableRows,
-    sent: &[Counter],
-    received: &[Counter],
-    set: [Checkpoint; 16],
-) -> Line
-    requires accepted_rows { AcceptedRows rows sent.now received.now × AllNamed rows.shape set }
-    requires absent_zero { AbsentZero rows set }
-    ensures { IsLineOf (cut (view_of (lent rows.shape sent.now received.now)) (chosen set)) result }
+pub fn find_from(tables: &Accepted, set: [Checkpoint; 16]) -> Line
+    requires all_named { AllNamed tables.now.rows.shape set }
+    requires absent_zero { AbsentZero tables.now.rows set }
+    ensures { IsLineOf (cut (view_of (tables_in tables.now)) (chosen set)) result }
 {
-    let shape = rows.shape;
-    let n = shape.n;
-    let mut at = rows_at(rows, set);
-    let mut flags = flags_of(sent, received, &at, n);
+    let n = tables.rows.shape.n;
+    let mut at = rows_at(tables.rows, set);
+    let mut flags = flags_of(tables.sent, tables.received, &at, n);
     let mut passed = 0;
     let mut j = first_flagged(&flags, n);
     while j < n {
-        step_back(sent, received, &mut at, &mut flags, n, j);
+        step_back(tables.sent, tables.received, &mut at, &mut flags, n, j);
         passed += 1;
         j = first_flagged(&flags, n);
     }
-    let line = set_at(rows, &at);
+    let line = set_at(tables.rows, &at);
     Line { set: line, passed }
 }
 
@@ -195,8 +189,6 @@ pub fn newest_set(shape: Shape) -> [Checkpoint; 16]
 pub fn find_line(shape: Shape, sent: &[Counter], received: &[Counter]) -> Result<Line, Question>
     ensures { by_number result ≡ answer_with (tables_question (lent shape sent.now received.now)) (found_in (lent shape sent.now received.now)) }
 {
-    tables::check(shape, sent, received)?;
-    let rows = book::rows_of(shape);
-    let newest = newest_set(shape);
-    Ok(find_from(rows, sent, received, newest))
+    let tables = accepted::accept(shape, sent, received)?;
+    Ok(find_from(&tables, newest_set(shape)))
 }

@@ -8,10 +8,9 @@ use lib.ListN.{length, get_or}
 use lib.Dec.{eqb}
 use Rattle.std.specs.Prelude.{Result, Ok, Err, Option, Some, None}
 use Rattle.std.proofs.lemmas.Option.{none-some, same_Some}
-use Rattle.book.specs.Lent.{Tables, lent}
+use Rattle.book.specs.Lent.{Tables}
 use Rattle.book.specs.declared.Process.{Process}
 use Rattle.book.specs.declared.Question.{Question}
-use Rattle.book.specs.declared.TableRows.{TableRows}
 use Rattle.book.specs.InTurn.{◌then◌, ask, answer_with}
 use Rattle.book.specs.Numbers.{number, by_number}
 use Rattle.book.specs.Check.{tables_question}
@@ -65,10 +64,9 @@ sender_there n me initiator s m formed e =
 
 -- ---- the initiator begins
 
-pub begin_on_lem : (tables : Tables) (me : Process) (purpose : ℕ) (rows : TableRows) (next : InitiatorStep)
-    → rows.shape ≡ tables.shape → next ≡ begin (own_of (lent rows.shape tables.sent tables.received) (me.0 - 1)) me purpose
-    → next ≡ begin_on tables me purpose
-begin_on_lem tables me purpose rows next e f = f ∙ (λ i. begin (own_of (lent (e i) tables.sent tables.received) (me.0 - 1)) me purpose)
+pub begin_on_lem : (tables : Tables) (me : Process) (purpose : ℕ) (taken : Tables) (next : InitiatorStep)
+    → taken ≡ tables → next ≡ begin (own_of taken (me.0 - 1)) me purpose → next ≡ begin_on tables me purpose
+begin_on_lem tables me purpose taken next e f = f ∙ (λ i. begin (own_of (e i) (me.0 - 1)) me purpose)
 
 -- questions 10 and 11
 abbrev pub names_question : ℕ → Process → ℕ → ℕ
@@ -200,11 +198,11 @@ module _ (n : ℕ) (state : Initiator) (s : List ℕ) where
       ap (λ (t : Message). awaited_question t) e
       ∙ sym (then_passed (ask 14 formed) (λ _. awaited_question (read_by n state s)) (ask_yes 14 formed h))
 
--- the step, on the rows of the shape and the message that was read
-pub step_on_lem : (tables : Tables) (state : Initiator) (s : List ℕ) (rows : TableRows) (m : Message) (next : InitiatorStep)
-    → rows.shape ≡ tables.shape → m ≡ read_by tables.shape.n state s → next ≡ step (own_of (lent rows.shape tables.sent tables.received) (state.me.0 - 1)) state m
+-- the step, on the accepted tables and the message that was read
+pub step_on_lem : (tables : Tables) (state : Initiator) (s : List ℕ) (taken : Tables) (m : Message) (next : InitiatorStep)
+    → taken ≡ tables → m ≡ read_by tables.shape.n state s → next ≡ step (own_of_state taken state) state m
     → next ≡ step_on tables state s
-step_on_lem tables state s rows m next e f g = g ∙ (λ i. step (own_of (lent (e i) tables.sent tables.received) (state.me.0 - 1)) state (f i))
+step_on_lem tables state s taken m next e f g = g ∙ (λ i. step (own_of_state (e i) state) state (f i))
 
 module _ (tables : Tables) (state : Initiator) (s out : List ℕ) where
   abbrev tables_asked : ℕ

@@ -1,13 +1,14 @@
 // Document 01, question 13: does an initiator's state fit the tables?
 ghost use Rattle.std.specs.Prelude.{◌≡◌, ◌-◌, ◌≤◌};
-ghost use Rattle.book.specs.Lent.{lent};
+ghost use Rattle.accepted.specs.Holding.{tables_in};
 ghost use Rattle.book.specs.View.{count};
 ghost use Rattle.machine.specs.Own.{own_of};
-ghost use Rattle.book.specs.Accepted.{AcceptedRows, IsProcess};
+ghost use Rattle.book.specs.Accepted.{IsProcess};
 ghost use Rattle.initiator.specs.Fits.{kept_matrix, search_fits, restart_fits, stage_fits, entries_fit, wait_fits, fits};
 
 use crate::Initiator;
-use book::{Count, Counter, TableRows};
+use accepted::Accepted;
+use book::Count;
 
 impl Initiator {
     // The matrix whose column the candidate goes by.
@@ -23,23 +24,23 @@ impl Initiator {
     }
 
     // Is the kept row the candidate's, and the candidate the newest that the kept column permits?
-    fn search_fits(self, rows: TableRows, sent: &[Counter], received: &[Counter]) -> bool
-        requires accepted_rows { AcceptedRows rows sent.now received.now × IsProcess rows self.me.0 }
-        requires le_candidate { (1 ≤ self.candidate.0) × (self.candidate.0 ≤ count rows.shape (self.me.0 - 1)) }
-        ensures { result ≡ search_fits (own_of (lent rows.shape sent.now received.now) (self.me.0 - 1)) self }
+    fn search_fits(self, tables: &Accepted) -> bool
+        requires is_process { IsProcess tables.now.rows self.me.0 }
+        requires le_candidate { (1 ≤ self.candidate.0) × (self.candidate.0 ≤ count tables.now.rows.shape (self.me.0 - 1)) }
+        ensures { result ≡ search_fits (own_of (tables_in tables.now) (self.me.0 - 1)) self }
     {
         let me = self.me;
         let candidate = self.candidate;
         let matrix = self.matrix;
         let kept = self.kept_matrix();
         let row = matrix::row(matrix, me);
-        let own = machine::sent_row(rows, sent, me, candidate);
-        if !matrix::same(row, own) {
+        let own = machine::sent_row(tables.rows, tables.sent, me, candidate);
+        if row != own {
             return false;
         }
         let column = matrix::column(kept, me);
-        let newest = consistency::newest_near(rows, received, me, candidate, column);
-        candidate.0 == newest.0
+        let newest = consistency::newest_near(tables.rows, tables.received, me, candidate, column);
+        candidate == newest
     }
 
     // Ended by purpose 2: on the oldest checkpoint, nothing known.
@@ -59,15 +60,15 @@ impl Initiator {
     }
 
     // The conditions that depend on how far it has come.
-    fn stage_fits(self, rows: TableRows, sent: &[Counter], received: &[Counter]) -> bool
-        requires accepted_rows { AcceptedRows rows sent.now received.now × IsProcess rows self.me.0 }
-        requires le_candidate { (1 ≤ self.candidate.0) × (self.candidate.0 ≤ count rows.shape (self.me.0 - 1)) }
-        ensures { result ≡ stage_fits (own_of (lent rows.shape sent.now received.now) (self.me.0 - 1)) self }
+    fn stage_fits(self, tables: &Accepted) -> bool
+        requires is_process { IsProcess tables.now.rows self.me.0 }
+        requires le_candidate { (1 ≤ self.candidate.0) × (self.candidate.0 ≤ count tables.now.rows.shape (self.me.0 - 1)) }
+        ensures { result ≡ stage_fits (own_of (tables_in tables.now) (self.me.0 - 1)) self }
     {
         if self.ended && self.purpose == 2 {
             return self.restart_fits();
         }
-        self.search_fits(rows, sent, received)
+        self.search_fits(tables)
     }
 
     // The conditions of the matrix, the copy and the flags alone.
@@ -105,11 +106,11 @@ impl Initiator {
     }
 
     // Does the state fit the tables (question 13)?
-    pub fn fits(self, rows: TableRows, sent: &[Counter], received: &[Counter]) -> bool
-        requires { AcceptedRows rows sent.now received.now × IsProcess rows self.me.0 }
-        ensures { result ≡ fits (own_of (lent rows.shape sent.now received.now) (self.me.0 - 1)) self }
+    pub fn fits(self, tables: &Accepted) -> bool
+        requires { IsProcess tables.now.rows self.me.0 }
+        ensures { result ≡ fits (own_of (tables_in tables.now) (self.me.0 - 1)) self }
     {
-        let shape = rows.shape;
+        let shape = tables.rows.shape;
         let counts = shape.counts;
         let me = self.me;
         let candidate = self.candidate;
@@ -123,7 +124,7 @@ impl Initiator {
         if !self.entries_fit() {
             return false;
         }
-        if !self.stage_fits(rows, sent, received) {
+        if !self.stage_fits(tables) {
             return false;
         }
         self.wait_fits()

@@ -4,6 +4,7 @@ mod fits;
 mod step;
 
 ghost use Rattle.std.specs.Prelude.{◌≡◌, ◌-◌, ◌≤◌, ◌<◌};
+ghost use Rattle.accepted.specs.Holding.{tables_in};
 ghost use Rattle.book.specs.InTurn.{◌then◌, ask, answer_to, answer_with};
 ghost use Rattle.book.specs.Numbers.{by_number};
 ghost use Rattle.lists.specs.Pick.{pick};
@@ -14,12 +15,13 @@ ghost use Rattle.machine.specs.Own.{own_of};
 ghost use Rattle.machine.specs.Named.{tally_limit};
 ghost use Rattle.machine.specs.Flags.{someone};
 ghost use Rattle.book.specs.Lent.{lent};
-ghost use Rattle.book.specs.Accepted.{AcceptedRows, IsProcess};
+ghost use Rattle.book.specs.Accepted.{IsProcess};
 ghost use Rattle.initiator.specs.Begin.{wait, without_wait, begin_search, begin_restart, begin};
 ghost use Rattle.initiator.specs.Step.{sender_of, awaits};
 ghost use Rattle.initiator.specs.Calls.{begin_question, no_initiator, state_begun, lengths_begun, bytes_begun, state_question, receive_question, state_after, lengths_after, bytes_after};
 
-use book::{Checkpoint, Count, Counter, Process, Question, Shape, TableRows};
+use accepted::Accepted;
+use book::{Checkpoint, Count, Counter, Process, Question, Shape};
 use mail::Outgoing;
 use message::{Head, Message};
 
@@ -85,22 +87,16 @@ pub fn no_initiator() -> Initiator
 }
 
 // A search begins: everybody else is invited.
-fn begin_search(
-    rows: TableRows,
-    sent: &[Counter],
-    received: &[Counter],
-    me: Process,
-    purpose: u64,
-) -> InitiatorStep
-    requires { AcceptedRows rows sent.now received.now × IsProcess rows me.0 }
-    ensures { result ≡ begin_search (own_of (lent rows.shape sent.now received.now) (me.0 - 1)) me purpose }
+fn begin_search(tables: &Accepted, me: Process, purpose: u64) -> InitiatorStep
+    requires { IsProcess tables.now.rows me.0 }
+    ensures { result ≡ begin_search (own_of (tables_in tables.now) (me.0 - 1)) me purpose }
 {
-    let shape = rows.shape;
+    let shape = tables.rows.shape;
     let n = shape.n;
     let counts = shape.counts;
     let place = me.0 - 1;
     let newest = Checkpoint(counts[place]);
-    let row = machine::sent_row(rows, sent, me, newest);
+    let row = machine::sent_row(tables.rows, tables.sent, me, newest);
     let unknown = matrix::not_known_matrix(n);
     let first = matrix::with_row(unknown, me, row);
     let to = machine::participants(n, me);
@@ -168,24 +164,17 @@ impl Initiator {
     }
 
     // Questions 10, 11 and 13 of a state, on accepted tables.
-    fn state_question(
-        self,
-        rows: TableRows,
-        sent: &[Counter],
-        received: &[Counter],
-    ) -> Result<(), Question>
-        requires { AcceptedRows rows sent.now received.now }
-        ensures { by_number result ≡ answer_to (state_question rows.shape.n (own_of (lent rows.shape sent.now received.now) (self.me.0 - 1)) self) }
+    fn state_question(self, tables: &Accepted) -> Result<(), Question>
+        ensures { by_number result ≡ answer_to (state_question tables.now.rows.shape.n (own_of (tables_in tables.now) (self.me.0 - 1)) self) }
     {
-        let shape = rows.shape;
         let me = self.me;
-        if !book::is_named(shape.n, me.0) {
+        if !book::is_named(tables.rows.shape.n, me.0) {
             return Err(Question::Named);
         }
         if !book::is_purpose(self.purpose) {
             return Err(Question::Purpose);
         }
-        if !self.fits(rows, sent, received) {
+        if !self.fits(tables) {
             return Err(Question::StateFits);
         }
         Ok(())
@@ -224,10 +213,9 @@ impl Initiator {
         ensures answer { by_number result ≡ answer_with (begin_question (lent shape sent.now received.now) me purpose out.old) (record { state = state_begun (lent shape sent.now received.now) me purpose out.old; lengths = lengths_begun (lent shape sent.now received.now) me purpose out.old }) }
         ensures out_after { out.new ≡ bytes_begun (lent shape sent.now received.now) me purpose out.old }
     {
-        tables::check(shape, sent, received)?;
+        let tables = accepted::accept(shape, sent, received)?;
         begin_question(shape.n, me, purpose)?;
-        let rows = book::rows_of(shape);
-        let next = first_step(rows, sent, received, me, purpose);
+        let next = first_step(&tables, me, purpose);
         let outgoing = next.outgoing;
         let lengths = mail::send(outgoing, out)?;
         let state = next.state;
@@ -247,15 +235,14 @@ impl Initiator {
         ensures answer { by_number result ≡ answer_with (receive_question (lent shape sent.now received.now) self s.now out.old) (record { state = state_after (lent shape sent.now received.now) self s.now out.old; lengths = lengths_after (lent shape sent.now received.now) self s.now out.old }) }
         ensures out_after { out.new ≡ bytes_after (lent shape sent.now received.now) self s.now out.old }
     {
-        tables::check(shape, sent, received)?;
-        let rows = book::rows_of(shape);
-        self.state_question(rows, sent, received)?;
+        let tables = accepted::accept(shape, sent, received)?;
+        self.state_question(&tables)?;
         let me = self.me;
         let Some(message) = message::read_message(s, shape.n, me, me) else {
             return Err(Question::MessageFormed);
         };
         self.awaited_question(message)?;
-        let next = self.step(rows, sent, received, message);
+        let next = self.step(&tables, message);
         let outgoing = next.outgoing;
         let lengths = mail::send(outgoing, out)?;
         let state = next.state;
@@ -277,19 +264,12 @@ pub fn begin_question(n: usize, me: Process, purpose: u64) -> Result<(), Questio
 }
 
 // A search, or a bare restart with purpose 2. Inner: a process of accepted tables.
-pub fn first_step(
-    rows: TableRows,
-    sent: &[Counter],
-    received: &[Counter],
-    me: Process,
-    purpose: u64,
-) -> InitiatorStep
-    requires { AcceptedRows rows sent.now received.now × IsProcess rows me.0 }
-    ensures { result ≡ begin (own_of (lent rows.shape sent.now received.now) (me.0 - 1)) me purpose }
+pub fn first_step(tables: &Accepted, me: Process, purpose: u64) -> InitiatorStep
+    requires { IsProcess tables.now.rows me.0 }
+    ensures { result ≡ begin (own_of (tables_in tables.now) (me.0 - 1)) me purpose }
 {
-    let shape = rows.shape;
     if purpose == 2 {
-        return begin_restart(shape.n, me, purpose);
+        return begin_restart(tables.rows.shape.n, me, purpose);
     }
-    begin_search(rows, sent, received, me, purpose)
+    begin_search(tables, me, purpose)
 }

@@ -1,13 +1,14 @@
 // Document 01, "A search", and K 5.2, steps 4 to 9: the initiator takes a report in.
 ghost use Rattle.std.specs.Prelude.{◌≡◌, ◌-◌, ◌≤◌, ◌<◌};
-ghost use Rattle.book.specs.Lent.{lent};
+ghost use Rattle.accepted.specs.Holding.{tables_in};
 ghost use Rattle.machine.specs.Own.{own_of};
 ghost use Rattle.machine.specs.Named.{tally_limit};
-ghost use Rattle.book.specs.Accepted.{AcceptedRows, IsProcess};
+ghost use Rattle.book.specs.Accepted.{IsProcess};
 ghost use Rattle.initiator.specs.Step.{whole_if_first, awaits, take_report, step_back, polled, poll, terminate, compare, silent, step};
 
 use crate::{Initiator, InitiatorStep};
-use book::{Count, Counter, TableRows};
+use accepted::Accepted;
+use book::Count;
 use mail::Outgoing;
 use message::{Head, Message};
 
@@ -24,7 +25,7 @@ impl Initiator {
         let matrix = self.matrix;
         let row = matrix::row(matrix, sender);
         let unknown = matrix::not_known_row(self.n, sender);
-        if !matrix::same(row, unknown) {
+        if row != unknown {
             return true;
         }
         message::pair_count(news) == self.n - 1
@@ -85,9 +86,9 @@ impl Initiator {
     }
 
     // The initiator's own step back, once all awaited reports are in.
-    fn step_back(self, rows: TableRows, sent: &[Counter], received: &[Counter]) -> Initiator
-        requires { AcceptedRows rows sent.now received.now × IsProcess rows self.me.0 }
-        ensures { result ≡ step_back (own_of (lent rows.shape sent.now received.now) (self.me.0 - 1)) self }
+    fn step_back(self, tables: &Accepted) -> Initiator
+        requires { IsProcess tables.now.rows self.me.0 }
+        ensures { result ≡ step_back (own_of (tables_in tables.now) (self.me.0 - 1)) self }
     {
         let me = self.me;
         let near = self.candidate;
@@ -95,8 +96,8 @@ impl Initiator {
         let awaited = self.awaited;
         let copy = self.copy;
         let known = matrix::column(held, me);
-        let candidate = consistency::newest_near(rows, received, me, near, known);
-        let row = machine::sent_row(rows, sent, me, candidate);
+        let candidate = consistency::newest_near(tables.rows, tables.received, me, near, known);
+        let row = machine::sent_row(tables.rows, tables.sent, me, candidate);
         let matrix = matrix::with_row(held, me, row);
         Initiator {
             n: self.n,
@@ -210,24 +211,18 @@ impl Initiator {
     }
 
     // The step that a report asks for. Inner: the message was awaited.
-    pub fn step(
-        self,
-        rows: TableRows,
-        sent: &[Counter],
-        received: &[Counter],
-        message: Message,
-    ) -> InitiatorStep
-        requires accepted_rows { AcceptedRows rows sent.now received.now × IsProcess rows self.me.0 }
+    pub fn step(self, tables: &Accepted, message: Message) -> InitiatorStep
+        requires is_process { IsProcess tables.now.rows self.me.0 }
         requires le_sender { (1 ≤ message.head.sender.0) × (message.head.sender.0 ≤ 16) }
         requires rounds_lt_tally_limit { self.rounds < tally_limit }
-        ensures { result ≡ step (own_of (lent rows.shape sent.now received.now) (self.me.0 - 1)) self message }
+        ensures { result ≡ step (own_of (tables_in tables.now) (self.me.0 - 1)) self message }
     {
         let taken = self.take_report(message);
         let awaited = taken.awaited;
         if machine::someone(awaited) {
             return taken.silent();
         }
-        let stepped = taken.step_back(rows, sent, received);
+        let stepped = taken.step_back(tables);
         stepped.compare()
     }
 }

@@ -22,12 +22,8 @@ fn one_more(counts: [u16; 16], p: u16) -> [u16; 16]
 {
     let mut next = counts;
     for q in 0..16u16 {
-        let mut more = 0;
-        if q == p {
-            more = 1;
-        }
         let i = q as usize;
-        next[i] = counts[i] + more;
+        next[i] = counts[i] + (q == p) as u16;
     }
     next
 }
@@ -52,14 +48,10 @@ impl Counts {
         let mut next = self;
         match event {
             Event::Sent(_, partner) => {
-                let counts = next.sent;
-                let raised = one_more(counts, (partner.0 - 1) as u16);
-                next.sent = raised;
+                next.sent = one_more(self.sent, (partner.0 - 1) as u16);
             }
             Event::Received(_, partner) => {
-                let counts = next.received;
-                let raised = one_more(counts, (partner.0 - 1) as u16);
-                next.received = raised;
+                next.received = one_more(self.received, (partner.0 - 1) as u16);
             }
             Event::Checkpointed(_) => {
                 next.checkpoints += 1;
@@ -93,8 +85,7 @@ pub fn after_event(counts: Counts, process: Process, event: Event) -> Counts
     requires { HasRoomOf process.0 event counts }
     ensures { result ≡ counts_next process.0 event counts }
 {
-    let named = crate::process_of(event);
-    if named.0 != process.0 {
+    if crate::process_of(event) != process {
         return counts;
     }
     logged(counts, event)

@@ -1,13 +1,13 @@
 -- A table of n values filled up with zeros, as a shape has it for absent processes.
-use mathlib.Core.Path.{◌≡◌, sym, ap, ◌∙◌}
+use mathlib.Core.Path.{◌≡◌, sym, ap, ap₂, ◌∙◌}
 use mathlib.Core.List.{List, ◌++◌}
 use Prim.Native.Nat.{ℕ, ◌+◌, ◌-◌, ◌≤◌, ◌<◌}
 use native.Mathlib.Decide.{dec_lt, ℕ_discrete}
 use native.Mathlib.Omega.{arith}
-use lib.ListN.{length, get_or, set, replicate, length-append, length-set, length-replicate, get_or-append}
-use lib.Seq.{get_or-append-add, get_or-set_same, get_or-set_other, ext_get_or}
+use lib.ListN.{length, take, drop, get_or, set, replicate, length-append, length-set, length-replicate, replicate-append-replicate, get_or-append, get_or-replicate}
+use lib.Seq.{drop_at, length-take-le, get_or-append-add, get_or-set_same, get_or-set_other, ext_get_or}
 use Rattle.lists.specs.Over.{tab}
-use Rattle.lists.proofs.Over.{length_tab, get_d_tab, replicate_at}
+use Rattle.lists.proofs.Over.{tab_is, length_tab, get_d_tab, replicate_at}
 use Rattle.book.specs.Tables.{padded}
 use Rattle.journal_reader.specs.Asking.{raised}
 
@@ -36,6 +36,21 @@ module _ (k n : ℕ) (f : ℕ → ℕ) where
         | yes o ↦ same i o ∙ sym (padded_at i o)
         | no o ↦ zeros i (omega arith) ∙ sym (padded_past i (omega arith))
       ])
+
+-- one value stored in the first n places of zeros
+pub padded_filled : (k n v : ℕ) (front : List ℕ) → n ≤ k → front ≡ replicate (length (take n (replicate {A = ℕ} k 0))) v
+    → front ++ drop n (replicate k 0) ≡ padded k (tab n (λ i. v))
+padded_filled k n v front h e =
+    let values : List ℕ = replicate n v in
+    let all : n + (k - n) ≡ k = omega arith in
+    let many : length (take n (replicate {A = ℕ} k 0)) ≡ n = length-take-le n (replicate k 0) (omega (arith, length-replicate {A = ℕ} k 0)) in
+    let table : values ≡ tab n (λ i. v) = tab_is 0 n (λ i. v) values (length-replicate n v) (λ i m. get_or-replicate n i v 0 m) in
+    let zeros : drop n (replicate {A = ℕ} k 0) ≡ replicate (k - n) 0
+    = ap (λ (m : ℕ). drop n (replicate {A = ℕ} m 0)) (sym all)
+    ∙ ap (drop n) (sym (replicate-append-replicate {A = ℕ} n (k - n) 0))
+    ∙ drop_at (replicate n 0) (replicate (k - n) 0) n (length-replicate {A = ℕ} n 0) in
+    let left : k - n ≡ k - length (tab n (λ i. v)) = omega (arith, length_tab n (λ i. v)) in
+    ap₂ (λ (a b : List ℕ). a ++ b) (e ∙ ap (λ (m : ℕ). replicate m v) many ∙ table) (zeros ∙ ap (λ (m : ℕ). replicate {A = ℕ} m 0) left)
 
 -- one more at one place
 pub padded_raised : (k n : ℕ) (f g : ℕ → ℕ) (j : ℕ) → n ≤ k → j < n → f j + 1 ≡ g j → ((i : ℕ) → i < n → (i ≡ j → ⊥) → f i ≡ g i)

@@ -25,9 +25,7 @@ fn first_counts(n: usize) -> [usize; 16]
     ensures { result ≡ first_counts n }
 {
     let mut counts = [0usize; 16];
-    for j in 0..n {
-        counts[j] = 1;
-    }
+    counts[..n].fill(1);
     counts
 }
 
@@ -142,6 +140,7 @@ fn take_events(s: &[u8], at: usize, n: usize) -> Result<Shape, Question>
     let mut counts = first_counts(n);
     let mut total = n;
     let mut next = at;
+    // Not a `for`: where an event ends is known once it is read.
     while next < s.len() {
         let Some(placed) = journal::read_event(s, next) else {
             return Err(Question::EventFormed);

@@ -13,11 +13,7 @@ use journal::counts::Counts;
 fn is_checkpoint(event: Event) -> bool
     ensures { result ≡ is_checkpoint_event event }
 {
-    match event {
-        Event::Sent(_, _) => false,
-        Event::Received(_, _) => false,
-        Event::Checkpointed(_) => true,
-    }
+    matches!(event, Event::Checkpointed(_))
 }
 
 // A row of counters put at its place.
@@ -25,8 +21,9 @@ fn put_row(table: &mut [Counter], row: usize, counters: [u16; 16])
     requires { IsRow row table.old }
     ensures { table.new ≡ sets table.old (row * row_width) counters }
 {
+    // Not `copy_from_slice`: each counter is widened.
     for p in 0..book::ROW_WIDTH {
-        table[row * book::ROW_WIDTH + p] = counters[p] as Counter;
+        table[row * book::ROW_WIDTH + p] = Counter::from(counters[p]);
     }
 }
 
@@ -36,10 +33,8 @@ fn put_rows(sent: &mut [Counter], received: &mut [Counter], row: usize, counts: 
     ensures sent { sent.new ≡ sets sent.old (row * row_width) counts.sent }
     ensures received { received.new ≡ sets received.old (row * row_width) counts.received }
 {
-    let counters = counts.sent;
-    put_row(sent, row, counters);
-    let counters = counts.received;
-    put_row(received, row, counters);
+    put_row(sent, row, counts.sent);
+    put_row(received, row, counts.received);
 }
 
 // The rows of all checkpoints but the oldest, which hold zeros.
@@ -56,6 +51,7 @@ fn put_events(
 {
     let mut all = [Counts::none(); 16];
     let mut next = at;
+    // Not a `for`: where an event ends is known once it is read.
     while next < s.len() {
         let found = journal::accepted_event(s, next);
         let event = found.event;
@@ -79,8 +75,7 @@ pub fn fill(bytes: &[u8], shape: Shape, sent: &mut [Counter], received: &mut [Co
 {
     book::clear(sent, 0, book::ENTRIES);
     book::clear(received, 0, book::ENTRIES);
-    let rows = book::rows_of(shape);
-    let first = rows.first;
+    let first = book::rows_of(shape).first;
     let Some((_, at)) = varint::read_number(bytes, 0, journal::GROUPS, journal::LARGEST) else {
         return;
     };

@@ -10,7 +10,7 @@ use borrow.Author.Tests.{lt-ltb, le-ltb}
 use lib.ListN.{length, get_or, length-append}
 use Rattle.book.specs.declared.Checkpoint.{Checkpoint}
 use Rattle.line_text.specs.Ascii.{ascii}
-use Rattle.line_text.specs.Text.{digits_of, decimal, spaced, labelled, checkpoint_numbers, first_lines, found_text, refused_text}
+use Rattle.line_text.specs.Text.{digits_of, decimal, spaced, labelled, checkpoint_numbers, first_lines}
 
 -- ---- one digit, and more
 
@@ -79,14 +79,3 @@ numbers_most (suc j) set =
 pub first_lines_most : (n : ℕ) (set : List Checkpoint) → n ≤ 16 → length (first_lines n set) ≤ 372
 unfolding first_lines
 first_lines_most n set h = simp length-append (omega (arith, row_most (ascii "processes") n, numbers_most n set))
-
-pub found_most : (n : ℕ) (set : List Checkpoint) (passed rounds messages : ℕ) → n ≤ 16
-    → length (found_text n set passed rounds messages) ≤ 512
-unfolding found_text
-found_most n set passed rounds messages h =
-    simp length-append
-    (omega (arith, first_lines_most n set h, row_most (ascii "passed") passed, row_most (ascii "rounds") rounds, row_most (ascii "messages") messages))
-
-pub refused_most : (question : ℕ) → length (refused_text question) ≤ 512
-unfolding refused_text
-refused_most question = omega (arith, row_most (ascii "refused") question)

@@ -1,14 +1,14 @@
 -- A text that grows: what stands behind what, and a text that grew from nothing.
 -- Assumes nothing.
-use mathlib.Core.Path.{◌≡◌, refl, sym, ap, ◌∙◌}
+use mathlib.Core.Path.{◌≡◌, sym, ap, ◌∙◌}
 use mathlib.Core.List.{List, [], ◌∷◌, ◌++◌, append_assoc, append-nil}
 use Prim.Native.Nat.{ℕ, ◌+◌, ◌≤◌, ◌<◌}
 use native.Mathlib.Numerals.{add-one}
 use native.Mathlib.Omega.{arith}
 use lib.ListN.{length, take, set, get_or, length-append}
-use lib.Seq.{take-suc, take-suc-set, take_all, length-take-le}
+use lib.Seq.{take-suc-set, take_at, length-take-le}
 use Rattle.book.specs.declared.Checkpoint.{Checkpoint}
-use Rattle.line_text.specs.declared.Text.{Text}
+use Rattle.line_text.specs.declared.growing.Text.{Text}
 use Rattle.line_text.specs.Text.{spaced, labelled, checkpoint_numbers}
 use Rattle.line_text.specs.Parts.{Grown, Holds}
 use Rattle.line_text.proofs.Decimal.{row_most, numbers_most}
@@ -16,9 +16,22 @@ use Rattle.line_text.proofs.Decimal.{row_most, numbers_most}
 pub grown_none : (text : Text) → Grown text text []
 grown_none text = record { first = sym (append-nil (take text.len text.bytes)); long = omega arith }
 
-pub grown_byte : (bytes : List ℕ) (len b : ℕ) → len < length bytes
-    → Grown (record { bytes = bytes; len = len }) (record { bytes = set bytes len b; len = len + 1 }) (b ∷ [])
-grown_byte bytes len b h = record { first = rw (add-one len) (take-suc-set bytes len b h); long = refl }
+-- a byte, or bytes, stored behind it
+pub grown_byte : (before after : Text) (b : ℕ) → after.bytes ≡ set before.bytes before.len b → after.len ≡ before.len + 1
+    → before.len < length before.bytes → Grown before after (b ∷ [])
+grown_byte before after b stored long h =
+    record { first = rw (stored, long, add-one before.len) (take-suc-set before.bytes before.len b h); long = long }
+
+pub grown_bytes : (before after : Text) (w rest : List ℕ) → after.bytes ≡ take before.len before.bytes ++ (w ++ rest)
+    → after.len ≡ before.len + length w → before.len ≤ length before.bytes → Grown before after w
+grown_bytes before after w rest stored long h =
+    let old : List ℕ = take before.len before.bytes in
+    record {
+      first = rw (stored, long)
+          (ap (take (before.len + length w)) (sym (append_assoc old w rest))
+          ∙ take_at (old ++ w) rest _ (omega (arith, length-append old w, length-take-le before.len before.bytes h)));
+      long = long;
+    }
 
 pub grown_more : {a b c : Text} {v w : List ℕ} → Grown a b v → Grown b c w → Grown a c (v ++ w)
 grown_more {a} {b} {c} {v} {w} g h =
@@ -28,34 +41,16 @@ grown_more {a} {b} {c} {v} {w} g h =
     }
 
 -- what grew from nothing
-pub holds_grown : {a b : Text} {v : List ℕ} → a.len ≡ 0 → length v ≤ 512 → Grown a b v → Holds b v
-holds_grown {a} {b} {v} e h g =
+pub holds_grown : {a b : Text} {v : List ℕ} → a.len ≡ 0 → Grown a b v → Holds b v
+holds_grown {a} {b} {v} e g =
     let l : b.len ≡ length v = omega (arith, g.long) in
-    record { first = g.first ∙ rw e; long = l; inside = omega arith }
+    record { first = g.first ∙ rw e; long = l }
 
 -- how long a text is at most with one line more
 pub row_room : {a b : Text} (word : List ℕ) (n : ℕ) → Grown a b (labelled word n) → b.len ≤ a.len + length word + 22
 row_room {a} {b} word n g = omega (arith, g.long, row_most word n)
 
--- ---- the loops
-
--- the first i bytes of a word are behind
-pub record Worded (text : Text) (w : List ℕ) (next : Text) (i : ℕ) : Type 0 where
-  pub place : i ≤ length w
-  pub behind : Grown text next (take i w)
-
-pub word_begun : (text : Text) (w : List ℕ) → Worded text w text 0
-word_begun text w = record { place = omega arith; behind = grown_none text }
-
-module _ {text : Text} {w : List ℕ} {next : Text} {i : ℕ} (r : Worded text w next i) where
-  pub word_room : text.len + length w ≤ 512 → i < length w → next.len < 512
-  word_room room h = omega (arith, r.behind.long, length-take-le i w r.place)
-
-  pub word_more : {then : Text} → i < length w → Grown next then (get_or w i 0 ∷ []) → Worded text w then (i + 1)
-  word_more h g = record { place = omega arith; behind = rw (add-one i, take-suc w i 0) (grown_more r.behind g) }
-
-  pub word_ended : length w ≤ i → Grown text next w
-  word_ended h = rw (take_all i w h) at r.behind
+-- ---- the loop
 
 -- the checkpoint numbers of the first j processes are behind
 pub record Listed (n : ℕ) (set : List Checkpoint) (text next : Text) (j : ℕ) : Type 0 where

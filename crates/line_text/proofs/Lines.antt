@@ -21,7 +21,7 @@ use Rattle.round_trips.proofs.Theorems.{read_passes_check}
 use Rattle.line_theory.proofs.Accepted.{passed_size}
 use Rattle.searches.specs.declared.SearchEnd.{SearchEnd}
 use Rattle.searches.specs.Search.{search_question, search_end}
-use Rattle.line_text.specs.declared.Text.{Text}
+use Rattle.line_text.specs.declared.growing.Text.{Text}
 use Rattle.line_text.specs.Text.{found_text, refused_text}
 use Rattle.line_text.specs.Parts.{Holds, Says}
 use Rattle.line_text.specs.Line.{table_inside, search_text, text_by, line_text}

@@ -1,24 +1,17 @@
 -- The first bytes of a text, and whether they fit.
 -- Assumes nothing.
-use mathlib.Core.Path.{◌≡◌, refl, sym}
+use mathlib.Core.Path.{◌≡◌, refl, sym, ap, ◌∙◌}
 use mathlib.Core.Bool.{Bool, true, false}
-use mathlib.Core.List.{List}
-use Prim.Native.Nat.{ℕ, ◌≤◌, ◌<◌}
+use mathlib.Core.List.{List, ◌++◌}
+use Prim.Native.Nat.{ℕ, ◌+◌, ◌≤◌, ◌<◌}
 use native.Mathlib.Omega.{arith}
 use borrow.Author.Tests.{le-leb, lt-leb, leb-true}
-use lib.ListN.{length, take, get_or}
-use lib.Seq.{sets, length-take-le, get_or-take}
+use lib.ListN.{length, take, drop}
+use lib.Seq.{sets, sets-eq, length-take-le}
 use lib.Dec.{leb}
 use Rattle.std.specs.Prelude.{Ok, Err}
 use Rattle.book.specs.InTurn.{ask, answer_with}
-use Rattle.lists.specs.Over.{tab}
-use Rattle.lists.proofs.Over.{tab_is}
 use Rattle.line_text.specs.Put.{put_answer, text_put}
-
--- the first bytes of a text, one by one
-pub tab_take : (bytes : List ℕ) (len : ℕ) → len ≤ length bytes → tab len (λ i. get_or bytes i 0) ≡ take len bytes
-tab_take bytes len h =
-    sym (tab_is 0 len (λ i. get_or bytes i 0) (take len bytes) (length-take-le len bytes h) (λ i m. get_or-take len bytes i 0 m))
 
 -- ---- whether it fits
 
@@ -36,6 +29,13 @@ module _ (bytes : List ℕ) (len : ℕ) (out : List ℕ) (inside : len ≤ lengt
       let l = length-take-le len bytes inside in
       let e = le-leb len (length out) h in
       (rw (l, e), rw (l, e))
+
+  -- the first bytes copied over the first of the buffer
+  pub copied : len ≤ length out → take len bytes ++ drop len out ≡ sets out 0 (take len bytes)
+  copied h =
+      let l = length-take-le len bytes inside in
+      let end : 0 + length (take len bytes) ≡ len = omega (arith, l) in
+      sym (sets-eq (take len bytes) out 0 (omega (arith, l)) ∙ ap (λ (k : ℕ). take len bytes ++ drop k out) end)
 
 -- a length that is answered lies within the buffer
 pub put_within : (text out : List ℕ) (n : ℕ) → put_answer text out ≡ Ok n → n ≤ length out

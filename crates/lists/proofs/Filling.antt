@@ -1,5 +1,5 @@
 -- A loop that fills an array place by place: its one invariant, and what the array is in the end.
-use mathlib.Core.Path.{◌≡◌, refl, sym, ◌∙◌}
+use mathlib.Core.Path.{◌≡◌, refl, ◌∙◌}
 use mathlib.Core.List.{List}
 use Prim.Native.Nat.{ℕ, ◌+◌, ◌≤◌, ◌<◌}
 use native.Mathlib.Decide.{dec_lt}
@@ -91,12 +91,6 @@ module _ {A : Type 0} {d : A} {before : List A} {n : ℕ} {f : ℕ → A} {l : L
   -- and is written
   pub filled_all : length before ≡ n → n ≤ k → l ≡ tab n f
   filled_all e h = filled_to e (λ i m o. absurd (omega arith))
-
--- another array is copied
-pub filled_copy : {A : Type 0} {d : A} {before from : List A} {n : ℕ} {l : List A} {k : ℕ} → Filled d before n (λ i. get_or from i d) l k
-    → length before ≡ n → length from ≡ n → n ≤ k → l ≡ from
-filled_copy {A} {d} {before} {from} {n} filled e e' h =
-    filled_all filled e h ∙ sym (tab_is d n (λ i. get_or from i d) from e' (λ i m. refl))
 
 -- the first n are written, into an array of one value
 pub filled_part : {A : Type 0} {d : A} (size : ℕ) {n : ℕ} {f : ℕ → A} {l : List A} {k : ℕ} → Filled d (replicate size d) n f l k → n ≤ k

@@ -1,15 +1,6 @@
--- Two tests put together, and what a call said of one.
+-- Two tests put together.
 use mathlib.Core.Path.{◌≡◌, refl, sym, ◌∙◌}
 use mathlib.Core.Bool.{Bool, true, false, not, ◌&&◌, ◌||◌, true≢false}
-use borrow.Author.Tests.{not-true, not-false}
-
--- ---- a call's answer, where the code tests that it is no
-
-pub told_no : {t f : Bool} → t ≡ f → not t ≡ true → f ≡ false
-told_no {t} e h = sym e ∙ not-true t h
-
-pub told_yes : {t f : Bool} → t ≡ f → not t ≡ false → f ≡ true
-told_yes {t} e h = sym e ∙ not-false t h
 
 -- ---- each follows from the other
 

@@ -14,6 +14,7 @@ ghost use Rattle.machine.specs.Sends.{nothing, only_to, is_termination};
 use book::{Checkpoint, Count, Counter, Process, TableRows};
 use mail::Outgoing;
 use message::{Head, Message};
+use std::array;
 
 // What counts of rounds and of deliveries stay below.
 pub const TALLY_LIMIT: u32 = 4294967295;
@@ -43,24 +44,15 @@ pub fn participants(n: usize, me: Process) -> [bool; 16]
     requires { 1 ≤ me.0 }
     ensures { result ≡ participants n (me.0 - 1) }
 {
-    let mut flags = [false; 16];
     let own = me.0 - 1;
-    for p in 0..book::MOST_PROCESSES {
-        flags[p] = is_participant(n, own, p);
-    }
-    flags
+    array::from_fn(|p| is_participant(n, own, p))
 }
 
 // Is some process flagged? Whether the initiator still waits is asked here.
 pub fn someone(flags: [bool; 16]) -> bool
     ensures { result ≡ someone flags }
 {
-    for p in 0..book::MOST_PROCESSES {
-        if flags[p] {
-            return true;
-        }
-    }
-    false
+    flags.contains(&true)
 }
 
 // Are only participants awaited?
@@ -82,15 +74,12 @@ pub fn without(flags: [bool; 16], j: Process) -> [bool; 16]
     requires { 1 ≤ j.0 }
     ensures { result ≡ tab 16 (λ p. flag flags p && not (eqb p (j.0 - 1))) }
 {
-    let mut next = [false; 16];
     let own = j.0 - 1;
-    for p in 0..book::MOST_PROCESSES {
-        next[p] = flags[p] && p != own;
-    }
-    next
+    array::from_fn(|p| flags[p] && p != own)
 }
 
 // The sent counters of process j's checkpoint r. Inner: asks for the rows of a whole table and a checkpoint that exists.
+// Tried by `from_fn`: that the closure may call `counter` at each turn did not close.
 pub fn sent_row(rows: TableRows, sent: &[Counter], j: Process, r: Checkpoint) -> [Count; 16]
     requires whole { Whole rows sent.now × IsProcess rows j.0 }
     requires le_r { (1 ≤ r.0) × (r.0 ≤ count rows.shape (j.0 - 1)) }
@@ -119,11 +108,7 @@ pub fn nothing(head: Head) -> Outgoing
 fn for_each(news: [Count; 16]) -> [Count; 256]
     ensures { result ≡ as_matrix (λ p k. counters news k) }
 {
-    let mut all = [Count(0); 256];
-    for i in 0..matrix::ENTRIES {
-        all[i] = news[i % book::ROW_WIDTH];
-    }
-    all
+    array::from_fn(|i| news[i % book::ROW_WIDTH])
 }
 
 // One message.

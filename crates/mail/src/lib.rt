@@ -39,7 +39,7 @@ fn pairs_size(news: [Count; 16]) -> usize
     for p in 0..book::MOST_PROCESSES {
         let counter = news[p];
         if counter.0 != matrix::NOT_KNOWN {
-            size += varint::size_of((p + 1) as u64) + varint::size_of(book::wide(counter.0));
+            size += varint::size_of((p + 1) as u64) + varint::size_of(u64::from(counter.0));
         }
     }
     size
@@ -78,7 +78,7 @@ fn put_pairs(news: [Count; 16], out: &mut [u8], at: usize) -> usize
         let counter = news[p];
         if counter.0 != matrix::NOT_KNOWN {
             next = varint::put_number((p + 1) as u64, out, next);
-            next = varint::put_number(book::wide(counter.0), out, next);
+            next = varint::put_number(u64::from(counter.0), out, next);
         }
     }
     next

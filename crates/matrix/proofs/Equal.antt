@@ -1,9 +1,8 @@
 -- Two rows are the same where each entry is.
-use mathlib.Core.Path.{◌≡◌, ap, sym, ◌∙◌}
+use mathlib.Core.Path.{◌≡◌, refl, ap, sym, ◌∙◌}
 use native.Mathlib.Omega.{arith}
-use mathlib.Core.Bool.{Bool, true}
+use mathlib.Core.Bool.{Bool, true, false, not}
 use mathlib.Core.List.{List}
-use Prim.Native.Nat.{ℕ, ◌<◌}
 use borrow.Author.Tests.{eq-eqb, eqb-true}
 use lib.Dec.{eqb}
 use lib.ListN.{length}
@@ -30,3 +29,13 @@ rows_same a b r long long' told =
     both_ways r (same a b)
     (λ t. all_out most_processes _ (λ i m. eq-eqb _ _ (ap (λ (l : List Count). counters l i) (equal.0 t))))
     (λ s. equal.1 (ext_get_or (tally 0) a b (long ∙ sym long') (λ i m. ap tally (eqb-true _ _ (all_in most_processes _ s i (omega (arith, long)))))))
+
+not_not : (b : Bool) → not (not b) ≡ b
+not_not true = refl
+not_not false = refl
+
+-- what `!=` answers
+pub rows_differ : (a b : List Count) (r : Bool) → length a ≡ most_processes → length b ≡ most_processes
+    → r ≡ not (pointwise (λ (x y : Count). eqb x.0 y.0) a b) → not r ≡ same a b
+rows_differ a b r long long' told =
+    ap not told ∙ not_not (pointwise (λ (x y : Count). eqb x.0 y.0) a b) ∙ rows_same a b _ long long' refl

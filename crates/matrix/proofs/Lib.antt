@@ -5,3 +5,4 @@ pub mod Sweep
 pub mod Zeros
 pub mod News
 pub mod Theorems
+pub mod Made

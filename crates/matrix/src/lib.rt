@@ -5,9 +5,10 @@ mod whole;
 
 ghost use Rattle.std.specs.Prelude.{◌≡◌, ◌-◌, ◌≤◌};
 ghost use Rattle.matrix.specs.Matrix.{row, column, with_row, is_pair, not_known_at, not_known_row, not_known_matrix};
-ghost use Rattle.matrix.specs.Entries.{differing, changed, diff, patch, same, zero_from, rest_zero, all_lower};
+ghost use Rattle.matrix.specs.Entries.{differing, changed, diff, patch, zero_from, rest_zero, all_lower};
 
 use book::{Count, Counter, Process};
+use std::array;
 pub use whole::{all_none_above, all_not_known, all_rest_zero, columns_differ, invitations, polls};
 
 // The mark for "not known", as an entry.
@@ -21,12 +22,8 @@ pub fn row(matrix: [Count; 256], j: Process) -> [Count; 16]
     requires { (1 ≤ j.0) × (j.0 ≤ 16) }
     ensures { result ≡ row matrix (j.0 - 1) }
 {
-    let mut entries = [Count(0); 16];
     let first = (j.0 - 1) * book::ROW_WIDTH;
-    for p in 0..book::MOST_PROCESSES {
-        entries[p] = matrix[first + p];
-    }
-    entries
+    array::from_fn(|p| matrix[first + p])
 }
 
 // What each sent to process p.
@@ -34,12 +31,8 @@ pub fn column(matrix: [Count; 256], p: Process) -> [Count; 16]
     requires { (1 ≤ p.0) × (p.0 ≤ 16) }
     ensures { result ≡ column matrix (p.0 - 1) }
 {
-    let mut entries = [Count(0); 16];
     let across = p.0 - 1;
-    for j in 0..book::MOST_PROCESSES {
-        entries[j] = matrix[j * book::ROW_WIDTH + across];
-    }
-    entries
+    array::from_fn(|j| matrix[j * book::ROW_WIDTH + across])
 }
 
 // The matrix with another row of process j.
@@ -49,9 +42,7 @@ pub fn with_row(matrix: [Count; 256], j: Process, entries: [Count; 16]) -> [Coun
 {
     let mut next = matrix;
     let first = (j.0 - 1) * book::ROW_WIDTH;
-    for p in 0..book::ROW_WIDTH {
-        next[first + p] = entries[p];
-    }
+    next[first..first + book::ROW_WIDTH].copy_from_slice(&entries);
     next
 }
 
@@ -78,23 +69,15 @@ pub fn not_known_row(n: usize, j: Process) -> [Count; 16]
     requires { 1 ≤ j.0 }
     ensures { result ≡ not_known_row n (j.0 - 1) }
 {
-    let mut entries = [Count(0); 16];
     let down = j.0 - 1;
-    for p in 0..book::MOST_PROCESSES {
-        entries[p] = not_known_at(n, down, p);
-    }
-    entries
+    array::from_fn(|p| not_known_at(n, down, p))
 }
 
 // A matrix in which nothing is known.
 pub fn not_known_matrix(n: usize) -> [Count; 256]
     ensures { result ≡ not_known_matrix n }
 {
-    let mut entries = [Count(0); 256];
-    for i in 0..ENTRIES {
-        entries[i] = not_known_at(n, i / book::ROW_WIDTH, i % book::ROW_WIDTH);
-    }
-    entries
+    array::from_fn(|i| not_known_at(n, i / book::ROW_WIDTH, i % book::ROW_WIDTH))
 }
 
 // The present entry as news, where it differs from the one held.
@@ -108,36 +91,21 @@ fn differing(now: Count, held: Count) -> Count
 fn changed(held: Count, news: Count) -> Count
     ensures { result.0 ≡ changed held.0 news.0 }
 {
-    if news.0 == NOT_KNOWN { held } else { news }
+    if news == Count(NOT_KNOWN) { held } else { news }
 }
 
 // News of the entries that differ from those held.
 pub fn diff(now: [Count; 16], held: [Count; 16]) -> [Count; 16]
     ensures { result ≡ diff now held }
 {
-    let mut news = [Count(0); 16];
-    for p in 0..book::MOST_PROCESSES {
-        news[p] = differing(now[p], held[p]);
-    }
-    news
+    array::from_fn(|p| differing(now[p], held[p]))
 }
 
 // The entries after the news.
 pub fn patch(held: [Count; 16], news: [Count; 16]) -> [Count; 16]
     ensures { result ≡ patch held news }
 {
-    let mut next = [Count(0); 16];
-    for p in 0..book::MOST_PROCESSES {
-        next[p] = changed(held[p], news[p]);
-    }
-    next
-}
-
-// Are the entries the same?
-pub fn same(a: [Count; 16], b: [Count; 16]) -> bool
-    ensures { result ≡ same a b }
-{
-    a == b
+    array::from_fn(|p| changed(held[p], news[p]))
 }
 
 // Are the entries from a place on zero?

@@ -1,6 +1,7 @@
 -- What the functions that read a message's parts promise the one that reads it whole.
 use Rattle.std.specs.Prelude.{◌≡◌, true, false, ◌&&◌, List, ◌∷◌, ℕ, length, eqb, Option, Some, None}
 use Rattle.book.specs.declared.Count.{Count}
+use Rattle.book.specs.declared.Process.{Process}
 use Rattle.book.specs.Read.{numbers_from}
 use Rattle.lists.specs.Pick.{pick}
 use Rattle.message.specs.declared.Head.{Head}
@@ -17,6 +18,11 @@ HeadFound n s (Some (head, next)) =
     })
     × (head_formed n head.kind head.purpose head.sender.0 ≡ true)
 HeadFound n s None = begin_formed n (numbers_from s 0).found ≡ false
+
+-- the participant at whose end of the strand a message is read, by its number: 0 for none
+abbrev pub end_number : Option Process → ℕ
+end_number None = 0
+end_number (Some end) = end.0
 
 -- what so many pairs from a place on carry, where they are formed and end the bytes
 abbrev pub counted_read : ℕ → ℕ → List ℕ → ℕ → ℕ → Option (List Count)

@@ -1,12 +1,11 @@
 #![tactic(auto)]
 // Document 01, "Message (own)": messages as data and as bytes, and reading them.
-ghost use Rattle.std.specs.Prelude.{◌≡◌, ◌≤◌, ◌<◌, Some, None};
-ghost use Rattle.book.specs.Bounds.{mark};
+ghost use Rattle.std.specs.Prelude.{◌≡◌, ◌≤◌, Some, None};
 ghost use Rattle.lists.specs.Pick.{pick};
 ghost use Rattle.message.specs.Layout.{pair_count};
 ghost use Rattle.message.specs.Formed.{head_formed, participant_end, pair_formed, invitation_formed, message_formed};
 ghost use Rattle.message.specs.Read.{message_read};
-ghost use Rattle.message.specs.Parts.{HeadFound, counted_read, pairs_read};
+ghost use Rattle.message.specs.Parts.{HeadFound, end_number, counted_read, pairs_read};
 
 use book::{Count, Counter, Process};
 
@@ -64,22 +63,22 @@ pub fn read_head(s: &[u8], n: usize) -> Option<(Head, usize)>
     Some((head, next))
 }
 
-// The participant at whose end of the strand a message is read; 0 where the initiator reads one that names itself.
-fn participant_end(me: Process, initiator: Process, sender: Process) -> Process
-    ensures { result.0 ≡ participant_end me.0 initiator.0 sender.0 }
+// The participant at whose end of the strand a message is read; none where the initiator reads one that names itself.
+fn participant_end(me: Process, initiator: Process, sender: Process) -> Option<Process>
+    ensures { end_number result ≡ participant_end me.0 initiator.0 sender.0 }
 {
-    if me.0 != initiator.0 {
-        return me;
+    if me != initiator {
+        return Some(me);
     }
-    if sender.0 == initiator.0 {
-        return Process(0);
+    if sender == initiator {
+        return None;
     }
-    sender
+    Some(sender)
 }
 
 // Is a pair formed, after one that names process `last`?
-fn pair_formed(n: usize, end: Process, last: u64, process: u64, counter: u64) -> bool
-    ensures { result ≡ pair_formed n end.0 last process counter }
+fn pair_formed(n: usize, end: Option<Process>, last: u64, process: u64, counter: u64) -> bool
+    ensures { result ≡ pair_formed n (end_number end) last process counter }
 {
     if process <= last {
         return false;
@@ -87,24 +86,22 @@ fn pair_formed(n: usize, end: Process, last: u64, process: u64, counter: u64) ->
     if n < process as usize {
         return false;
     }
-    if process as usize == end.0 {
+    if Some(Process(process as usize)) == end {
         return false;
     }
     counter < book::MARK
 }
 
-// A pair's counter as an entry.
-fn entry(counter: u64) -> Count
-    requires { counter < mark }
-    ensures { result.0 ≡ counter }
-{
-    Count(counter as Counter)
-}
-
 // What so many pairs from a place on carry, where they are formed and end the bytes; none names the participant `end`.
-fn read_counted(s: &[u8], at: usize, n: usize, end: Process, count: u64) -> Option<[Count; 16]>
+fn read_counted(
+    s: &[u8],
+    at: usize,
+    n: usize,
+    end: Option<Process>,
+    count: u64,
+) -> Option<[Count; 16]>
     requires { n ≤ 16 }
-    ensures { result ≡ counted_read n end.0 s.now at count }
+    ensures { result ≡ counted_read n (end_number end) s.now at count }
 {
     let mut news = [Count(matrix::NOT_KNOWN); 16];
     let mut last: u64 = 0;
@@ -116,7 +113,7 @@ fn read_counted(s: &[u8], at: usize, n: usize, end: Process, count: u64) -> Opti
             return None;
         }
         let place = process as usize - 1;
-        news[place] = entry(counter);
+        news[place] = Count(counter as Counter);
         last = process;
         next = after;
     }
@@ -127,9 +124,9 @@ fn read_counted(s: &[u8], at: usize, n: usize, end: Process, count: u64) -> Opti
 }
 
 // What the pairs from a place on carry, their count before them, where they are formed and end the bytes.
-pub fn read_pairs(s: &[u8], at: usize, n: usize, end: Process) -> Option<[Count; 16]>
+pub fn read_pairs(s: &[u8], at: usize, n: usize, end: Option<Process>) -> Option<[Count; 16]>
     requires { n ≤ 16 }
-    ensures { result ≡ pairs_read n end.0 s.now at }
+    ensures { result ≡ pairs_read n (end_number end) s.now at }
 {
     let (count, first) = varint::read_number(s, at, book::GROUPS, book::LARGEST)?;
     read_counted(s, first, n, end, count)

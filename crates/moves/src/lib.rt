@@ -21,21 +21,15 @@ pub struct Moved {
     pub order: Order,
 }
 
-// A counter less what is taken off it. In accepted tables what is taken off is never more (`FallsExactly`).
-fn less(v: Counter, off: Count) -> Counter
-    ensures { result ≡ v - off.0 }
-{
-    if v < off.0 { 0 } else { v - off.0 }
-}
-
-// One row to an earlier place, or to its own, less what is taken off.
+// One row to an earlier place, or to its own, less what is taken off. In accepted tables that is never more than the counter
+// (`FallsExactly`).
 fn move_row(table: &mut [Counter], from: usize, to: usize, off: [Count; 16])
     requires { (to ≤ from) × (from * 16 + 16 ≤ length table.old) }
     ensures { table.new ≡ sets table.old (to * 16) (tab 16 (lowered table.old from off)) }
 {
     for p in 0..book::ROW_WIDTH {
         let v = table[from * book::ROW_WIDTH + p];
-        table[to * book::ROW_WIDTH + p] = less(v, off[p]);
+        table[to * book::ROW_WIDTH + p] = v.saturating_sub(off[p].0);
     }
 }
 
@@ -123,13 +117,12 @@ pub fn move_line(
     ensures sent_after { sent.new ≡ sent_moved (lent shape sent.old received.old) purpose }
     ensures received_after { received.new ≡ received_moved (lent shape sent.old received.old) purpose }
 {
-    plans::question(shape, sent, received, purpose)?;
-    let rows = book::rows_of(shape);
-    let plan = plans::plan_move(rows, sent, received, purpose);
-    let order = plan.order;
+    let tables = plans::accept(shape, sent, received, purpose)?;
+    let rows = tables.rows;
+    let plan = plans::plan_move(&tables, purpose);
     let moved = apply(rows, plan, sent, received);
     Ok(Moved {
         shape: moved,
-        order,
+        order: plan.order,
     })
 }

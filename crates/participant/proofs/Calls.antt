@@ -5,12 +5,11 @@ use mathlib.Core.List.{List}
 use Prim.Native.Nat.{ℕ, ◌-◌, ◌≤◌}
 use native.Mathlib.Omega.{arith}
 use Rattle.std.specs.Prelude.{Result, Ok, Err, Option, Some, None}
-use Rattle.book.specs.Lent.{Tables, lent}
+use Rattle.book.specs.Lent.{Tables}
 use Rattle.book.specs.declared.Checkpoint.{Checkpoint}
 use Rattle.book.specs.declared.Count.{Count}
 use Rattle.book.specs.declared.Process.{Process}
 use Rattle.book.specs.declared.Question.{Question}
-use Rattle.book.specs.declared.TableRows.{TableRows}
 use Rattle.book.specs.InTurn.{◌then◌, ask, answer_with}
 use Rattle.book.specs.Numbers.{number, by_number}
 use Rattle.book.specs.Check.{tables_question}
@@ -109,12 +108,11 @@ state_named n own state h =
     then_none (ask 10 (participant_named n me initiator)) (λ _. ask 11 (is_purpose state.purpose) then λ _. ask 13 (fits own state)) h in
     named_there n me initiator (asked_yes 9 (participant_named n me initiator) passes.0)
 
--- the step, on the rows of the shape and the message that was read
-pub step_on_lem : (tables : Tables) (state : Participant) (s : List ℕ) (rows : TableRows) (m : Message) (next : ParticipantStep)
-    → rows.shape ≡ tables.shape → m ≡ read_by tables.shape.n state s → next ≡ step (own_of (lent rows.shape tables.sent tables.received) (state.me.0 - 1)) state m
+-- the step, on the accepted tables and the message that was read
+pub step_on_lem : (tables : Tables) (state : Participant) (s : List ℕ) (taken : Tables) (m : Message) (next : ParticipantStep)
+    → taken ≡ tables → m ≡ read_by tables.shape.n state s → next ≡ step (own_of_state taken state) state m
     → next ≡ step_on tables state s
-step_on_lem tables state s rows m next e f g =
-    g ∙ (λ i. step (own_of (lent (e i) tables.sent tables.received) (state.me.0 - 1)) state (f i))
+step_on_lem tables state s taken m next e f g = g ∙ (λ i. step (own_of_state (e i) state) state (f i))
 
 -- what the message's questions answer of the message as it was read
 pub message_asked : (state : Participant) (read : Option Message) (formed : Bool) (m : Message) → read ≡ pick formed (Some m) None

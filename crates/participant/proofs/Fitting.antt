@@ -23,20 +23,18 @@ module _ (r : ℕ) (state : Participant) where
   abbrev unknown : List Count
   unknown = not_known_row state.n (state.me.0 - 1)
 
-  pub unknown_elsewhere : (state.candidate.0 ≡ r → ⊥) → unknown_on r state ≡ false
+  pub unknown_elsewhere : eqb state.candidate.0 r ≡ false → unknown_on r state ≡ false
   unfolding unknown_on
-  unknown_elsewhere h =
-      and_first (eqb state.candidate.0 r) (same state.row unknown && same state.column unknown) (ne_eqb state.candidate.0 r h)
+  unknown_elsewhere h = and_first (eqb state.candidate.0 r) (same state.row unknown && same state.column unknown) h
 
-  unknown_here : state.candidate.0 ≡ r → unknown_on r state ≡ (same state.row unknown && same state.column unknown)
+  unknown_here : eqb state.candidate.0 r ≡ true → unknown_on r state ≡ (same state.row unknown && same state.column unknown)
   unfolding unknown_on
-  unknown_here h =
-      and_rest (eqb state.candidate.0 r) (same state.row unknown && same state.column unknown) (eq-eqb state.candidate.0 r h)
+  unknown_here h = and_rest (eqb state.candidate.0 r) (same state.row unknown && same state.column unknown) h
 
-  pub unknown_row : state.candidate.0 ≡ r → same state.row unknown ≡ false → unknown_on r state ≡ false
+  pub unknown_row : eqb state.candidate.0 r ≡ true → same state.row unknown ≡ false → unknown_on r state ≡ false
   unknown_row h a = unknown_here h ∙ and_first (same state.row unknown) (same state.column unknown) a
 
-  pub unknown_column : state.candidate.0 ≡ r → same state.row unknown ≡ true
+  pub unknown_column : eqb state.candidate.0 r ≡ true → same state.row unknown ≡ true
       → unknown_on r state ≡ same state.column unknown
   unknown_column h a = unknown_here h ∙ and_rest (same state.row unknown) (same state.column unknown) a
 

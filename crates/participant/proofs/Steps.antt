@@ -3,6 +3,7 @@ use mathlib.Core.Path.{◌≡◌, ap, ◌∙◌}
 use mathlib.Core.Bool.{true, false}
 use mathlib.Core.List.{List}
 use Prim.Native.Nat.{ℕ, ◌-◌}
+use lib.Dec.{eqb}
 use borrow.Author.Tests.{eq-eqb, ne_eqb}
 use Rattle.book.specs.declared.Checkpoint.{Checkpoint}
 use Rattle.book.specs.declared.Count.{Count}
@@ -72,15 +73,15 @@ module _ (own : Own) (state : Participant) (m : Message) (after : Participant) (
 -- ---- whether a message is awaited
 
 module _ (state : Participant) (m : Message) where
-  pub other_sender : (m.head.sender.0 ≡ state.initiator.0 → ⊥) → false ≡ awaits state m
+  pub other_sender : eqb m.head.sender.0 state.initiator.0 ≡ false → false ≡ awaits state m
   unfolding awaits
-  other_sender h = rw (ne_eqb m.head.sender.0 state.initiator.0 h)
+  other_sender h = rw h
 
-  module _ (from : m.head.sender.0 ≡ state.initiator.0) where
+  module _ (from : eqb m.head.sender.0 state.initiator.0 ≡ true) where
     pub other_purpose : (m.head.purpose ≡ state.purpose → ⊥) → false ≡ awaits state m
     unfolding awaits
-    other_purpose h = rw (eq-eqb m.head.sender.0 state.initiator.0 from, ne_eqb m.head.purpose state.purpose h)
+    other_purpose h = rw (from, ne_eqb m.head.purpose state.purpose h)
 
     pub by_kind : m.head.purpose ≡ state.purpose → kind_awaited state.stage m.head.kind ≡ awaits state m
     unfolding awaits
-    by_kind h = rw (eq-eqb m.head.sender.0 state.initiator.0 from, eq-eqb m.head.purpose state.purpose h)
+    by_kind h = rw (from, eq-eqb m.head.purpose state.purpose h)

@@ -1,32 +1,33 @@
 // Document 01, question 13: does a participant's state fit the tables?
 ghost use Rattle.std.specs.Prelude.{◌≡◌, ◌-◌, ◌≤◌};
-ghost use Rattle.book.specs.Lent.{lent};
+ghost use Rattle.accepted.specs.Holding.{tables_in};
 ghost use Rattle.book.specs.View.{count};
 ghost use Rattle.machine.specs.Own.{own_of};
-ghost use Rattle.book.specs.Accepted.{AcceptedRows, IsProcess};
+ghost use Rattle.book.specs.Accepted.{IsProcess};
 ghost use Rattle.participant.specs.declared.Stage.TheVariants.{Ended};
 ghost use Rattle.participant.specs.Fits.{search_fits, unknown_on, stage_fits, fits};
 
 use crate::{Participant, Stage};
-use book::{Checkpoint, Counter, TableRows};
+use accepted::Accepted;
+use book::Checkpoint;
 
 impl Participant {
     // Is the kept row the candidate's, and the candidate the newest that the kept column permits?
-    fn search_fits(self, rows: TableRows, sent: &[Counter], received: &[Counter]) -> bool
-        requires accepted_rows { AcceptedRows rows sent.now received.now × IsProcess rows self.me.0 }
-        requires le_candidate { (1 ≤ self.candidate.0) × (self.candidate.0 ≤ count rows.shape (self.me.0 - 1)) }
-        ensures { result ≡ search_fits (own_of (lent rows.shape sent.now received.now) (self.me.0 - 1)) self }
+    fn search_fits(self, tables: &Accepted) -> bool
+        requires is_process { IsProcess tables.now.rows self.me.0 }
+        requires le_candidate { (1 ≤ self.candidate.0) × (self.candidate.0 ≤ count tables.now.rows.shape (self.me.0 - 1)) }
+        ensures { result ≡ search_fits (own_of (tables_in tables.now) (self.me.0 - 1)) self }
     {
         let me = self.me;
         let candidate = self.candidate;
         let row = self.row;
         let column = self.column;
-        let own = machine::sent_row(rows, sent, me, candidate);
-        if !matrix::same(row, own) {
+        let own = machine::sent_row(tables.rows, tables.sent, me, candidate);
+        if row != own {
             return false;
         }
-        let newest = consistency::newest_near(rows, received, me, candidate, column);
-        candidate.0 == newest.0
+        let newest = consistency::newest_near(tables.rows, tables.received, me, candidate, column);
+        candidate == newest
     }
 
     // Is nothing known, on this checkpoint?
@@ -38,52 +39,51 @@ impl Participant {
         let candidate = self.candidate;
         let row = self.row;
         let column = self.column;
-        if candidate.0 != r.0 {
+        if candidate != r {
             return false;
         }
         let unknown = matrix::not_known_row(self.n, me);
-        if !matrix::same(row, unknown) {
+        if row != unknown {
             return false;
         }
-        matrix::same(column, unknown)
+        column == unknown
     }
 
     // Once it has ended: by purpose 2 on the oldest checkpoint, nothing known.
-    fn end_fits(self, rows: TableRows, sent: &[Counter], received: &[Counter]) -> bool
-        requires accepted_rows { AcceptedRows rows sent.now received.now × IsProcess rows self.me.0 }
-        requires le_candidate { (1 ≤ self.candidate.0) × (self.candidate.0 ≤ count rows.shape (self.me.0 - 1)) }
-        ensures { result ≡ stage_fits (own_of (lent rows.shape sent.now received.now) (self.me.0 - 1)) self Ended }
+    fn end_fits(self, tables: &Accepted) -> bool
+        requires is_process { IsProcess tables.now.rows self.me.0 }
+        requires le_candidate { (1 ≤ self.candidate.0) × (self.candidate.0 ≤ count tables.now.rows.shape (self.me.0 - 1)) }
+        ensures { result ≡ stage_fits (own_of (tables_in tables.now) (self.me.0 - 1)) self Ended }
     {
         if self.purpose == 2 {
             return self.unknown_on(Checkpoint(1));
         }
-        self.search_fits(rows, sent, received)
+        self.search_fits(tables)
     }
 
     // The conditions that depend on how far it has come.
-    fn stage_fits(self, rows: TableRows, sent: &[Counter], received: &[Counter]) -> bool
-        requires accepted_rows { AcceptedRows rows sent.now received.now × IsProcess rows self.me.0 }
-        requires le_candidate { (1 ≤ self.candidate.0) × (self.candidate.0 ≤ count rows.shape (self.me.0 - 1)) }
-        ensures { result ≡ stage_fits (own_of (lent rows.shape sent.now received.now) (self.me.0 - 1)) self self.stage }
+    fn stage_fits(self, tables: &Accepted) -> bool
+        requires is_process { IsProcess tables.now.rows self.me.0 }
+        requires le_candidate { (1 ≤ self.candidate.0) × (self.candidate.0 ≤ count tables.now.rows.shape (self.me.0 - 1)) }
+        ensures { result ≡ stage_fits (own_of (tables_in tables.now) (self.me.0 - 1)) self self.stage }
     {
-        let shape = rows.shape;
-        let counts = shape.counts;
+        let counts = tables.rows.shape.counts;
         let me = self.me;
         let place = me.0 - 1;
         let stage = self.stage;
         match stage {
             Stage::Before => self.unknown_on(Checkpoint(counts[place])),
-            Stage::Searching => self.search_fits(rows, sent, received),
-            Stage::Ended => self.end_fits(rows, sent, received),
+            Stage::Searching => self.search_fits(tables),
+            Stage::Ended => self.end_fits(tables),
         }
     }
 
     // Does the state fit the tables (question 13)?
-    pub fn fits(self, rows: TableRows, sent: &[Counter], received: &[Counter]) -> bool
-        requires { AcceptedRows rows sent.now received.now × IsProcess rows self.me.0 }
-        ensures { result ≡ fits (own_of (lent rows.shape sent.now received.now) (self.me.0 - 1)) self }
+    pub fn fits(self, tables: &Accepted) -> bool
+        requires { IsProcess tables.now.rows self.me.0 }
+        ensures { result ≡ fits (own_of (tables_in tables.now) (self.me.0 - 1)) self }
     {
-        let shape = rows.shape;
+        let shape = tables.rows.shape;
         let counts = shape.counts;
         let me = self.me;
         let candidate = self.candidate;
@@ -102,6 +102,6 @@ impl Participant {
         if !matrix::rest_zero(self.n, me, column) {
             return false;
         }
-        self.stage_fits(rows, sent, received)
+        self.stage_fits(tables)
     }
 }

@@ -5,14 +5,15 @@ mod step;
 
 ghost use Rattle.std.specs.Prelude.{◌≡◌, ◌-◌, ◌≤◌};
 ghost use Rattle.book.specs.Lent.{lent};
-ghost use Rattle.book.specs.Accepted.{AcceptedRows};
+ghost use Rattle.accepted.specs.Holding.{tables_in};
 ghost use Rattle.book.specs.InTurn.{answer_to, answer_with};
 ghost use Rattle.book.specs.Numbers.{by_number};
 ghost use Rattle.machine.specs.Own.{own_of};
 ghost use Rattle.participant.specs.Step.{first_of};
 ghost use Rattle.participant.specs.Calls.{no_participant, first_question, first_state, state_question, message_answer, receive_question, state_after, lengths_after, bytes_after};
 
-use book::{Checkpoint, Count, Counter, Process, Question, Shape, TableRows};
+use accepted::Accepted;
+use book::{Checkpoint, Count, Counter, Process, Question, Shape};
 use mail::Outgoing;
 use message::Message;
 
@@ -121,25 +122,18 @@ impl Participant {
     }
 
     // Questions 10, 11 and 13 of a state, on accepted tables.
-    fn state_question(
-        self,
-        rows: TableRows,
-        sent: &[Counter],
-        received: &[Counter],
-    ) -> Result<(), Question>
-        requires { AcceptedRows rows sent.now received.now }
-        ensures { by_number result ≡ answer_to (state_question rows.shape.n (own_of (lent rows.shape sent.now received.now) (self.me.0 - 1)) self) }
+    fn state_question(self, tables: &Accepted) -> Result<(), Question>
+        ensures { by_number result ≡ answer_to (state_question tables.now.rows.shape.n (own_of (tables_in tables.now) (self.me.0 - 1)) self) }
     {
-        let shape = rows.shape;
         let me = self.me;
         let initiator = self.initiator;
-        if !machine::participant_named(shape.n, me, initiator) {
+        if !machine::participant_named(tables.rows.shape.n, me, initiator) {
             return Err(Question::Named);
         }
         if !book::is_purpose(self.purpose) {
             return Err(Question::Purpose);
         }
-        if !self.fits(rows, sent, received) {
+        if !self.fits(tables) {
             return Err(Question::StateFits);
         }
         Ok(())
@@ -176,14 +170,13 @@ impl Participant {
         ensures answer { by_number result ≡ answer_with (receive_question (lent shape sent.now received.now) self s.now out.old) (record { state = state_after (lent shape sent.now received.now) self s.now out.old; lengths = lengths_after (lent shape sent.now received.now) self s.now out.old }) }
         ensures out_after { out.new ≡ bytes_after (lent shape sent.now received.now) self s.now out.old }
     {
-        tables::check(shape, sent, received)?;
-        let rows = book::rows_of(shape);
-        self.state_question(rows, sent, received)?;
+        let tables = accepted::accept(shape, sent, received)?;
+        self.state_question(&tables)?;
         let me = self.me;
         let initiator = self.initiator;
         let read = message::read_message(s, shape.n, me, initiator);
         let message = self.message_question(read)?;
-        let next = self.step(rows, sent, received, message);
+        let next = self.step(&tables, message);
         let outgoing = next.outgoing;
         let lengths = mail::send(outgoing, out)?;
         let state = next.state;

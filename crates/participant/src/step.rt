@@ -1,12 +1,13 @@
 // Document 01, "A search", and K 5.3: what a participant awaits, and what it does with it.
 ghost use Rattle.std.specs.Prelude.{◌≡◌, ◌-◌, ◌≤◌};
-ghost use Rattle.book.specs.Lent.{lent};
+ghost use Rattle.accepted.specs.Holding.{tables_in};
 ghost use Rattle.machine.specs.Own.{own_of};
-ghost use Rattle.book.specs.Accepted.{AcceptedRows, IsProcess};
+ghost use Rattle.book.specs.Accepted.{IsProcess};
 ghost use Rattle.participant.specs.Step.{kind_awaited, awaits, end_on_oldest, end, step_back, report_of, silent, step};
 
 use crate::{Participant, ParticipantStep, Stage};
-use book::{Checkpoint, Counter, TableRows};
+use accepted::Accepted;
+use book::Checkpoint;
 use message::{Head, Message};
 
 // What kind of message is awaited?
@@ -29,7 +30,7 @@ impl Participant {
         let sender = head.sender;
         let initiator = self.initiator;
         let stage = self.stage;
-        if sender.0 != initiator.0 {
+        if sender != initiator {
             return false;
         }
         if head.purpose != self.purpose {
@@ -80,15 +81,9 @@ impl Participant {
     }
 
     // The newest checkpoint that is permitted with the message's counters, and its row.
-    fn step_back(
-        self,
-        rows: TableRows,
-        sent: &[Counter],
-        received: &[Counter],
-        message: Message,
-    ) -> Participant
-        requires { AcceptedRows rows sent.now received.now × IsProcess rows self.me.0 }
-        ensures { result ≡ step_back (own_of (lent rows.shape sent.now received.now) (self.me.0 - 1)) self message }
+    fn step_back(self, tables: &Accepted, message: Message) -> Participant
+        requires { IsProcess tables.now.rows self.me.0 }
+        ensures { result ≡ step_back (own_of (tables_in tables.now) (self.me.0 - 1)) self message }
     {
         let me = self.me;
         let initiator = self.initiator;
@@ -96,8 +91,8 @@ impl Participant {
         let held = self.column;
         let news = message.news;
         let column = matrix::patch(held, news);
-        let candidate = consistency::newest_near(rows, received, me, near, column);
-        let row = machine::sent_row(rows, sent, me, candidate);
+        let candidate = consistency::newest_near(tables.rows, tables.received, me, near, column);
+        let row = machine::sent_row(tables.rows, tables.sent, me, candidate);
         Participant {
             n: self.n,
             me,
@@ -149,16 +144,10 @@ impl Participant {
     }
 
     // The step that a message asks for. Inner: the message was awaited.
-    pub fn step(
-        self,
-        rows: TableRows,
-        sent: &[Counter],
-        received: &[Counter],
-        message: Message,
-    ) -> ParticipantStep
-        requires accepted_rows { AcceptedRows rows sent.now received.now × IsProcess rows self.me.0 }
+    pub fn step(self, tables: &Accepted, message: Message) -> ParticipantStep
+        requires is_process { IsProcess tables.now.rows self.me.0 }
         requires le_initiator { (1 ≤ self.initiator.0) × (self.initiator.0 ≤ 16) }
-        ensures { result ≡ step (own_of (lent rows.shape sent.now received.now) (self.me.0 - 1)) self message }
+        ensures { result ≡ step (own_of (tables_in tables.now) (self.me.0 - 1)) self message }
     {
         let head = message.head;
         if head.purpose == 2 {
@@ -167,6 +156,6 @@ impl Participant {
         if machine::is_termination(message) {
             return self.end().silent();
         }
-        self.report_of(self.step_back(rows, sent, received, message))
+        self.report_of(self.step_back(tables, message))
     }
 }

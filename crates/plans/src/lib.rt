@@ -3,10 +3,10 @@
 // Nothing is changed here.
 ghost use Rattle.std.specs.Prelude.{◌≡◌, ◌-◌, ◌≤◌};
 ghost use Rattle.book.specs.Lent.{lent};
-ghost use Rattle.book.specs.Accepted.{AcceptedRows};
 ghost use Rattle.book.specs.View.{count, counter_at};
-ghost use Rattle.book.specs.InTurn.{answer_with, answer_to};
+ghost use Rattle.book.specs.InTurn.{answer_with};
 ghost use Rattle.book.specs.Numbers.{by_number};
+ghost use Rattle.accepted.specs.Holding.{tables_in, accepted_in};
 ghost use Rattle.line_theory.specs.OfTables.{view_of};
 ghost use Rattle.lists.specs.Pick.{pick};
 ghost use Rattle.consistency.specs.Set.{chosen};
@@ -17,6 +17,7 @@ ghost use Rattle.restart.specs.Plan.{advances, restarts, line_checkpoint, first_
 ghost use Rattle.restart.specs.Values.{present, numbers, rows_of, plan_of};
 ghost use Rattle.restart.specs.Calls.{move_question, order_given};
 
+use accepted::Accepted;
 use book::{Checkpoint, Count, Counter, Process, Question, Shape, TableRows};
 use restart::{Order, Plan, Resend, TakenOff};
 
@@ -47,22 +48,15 @@ fn oldest_set(n: usize) -> [Checkpoint; 16]
 }
 
 // The line checkpoint of every process.
-fn line_checkpoints(
-    rows: TableRows,
-    sent: &[Counter],
-    received: &[Counter],
-    purpose: u64,
-) -> [Checkpoint; 16]
-    requires { AcceptedRows rows sent.now received.now }
-    ensures { result ≡ checkpoints (present rows.shape.n (line_checkpoint (view_of (lent rows.shape sent.now received.now)) purpose)) }
+fn line_checkpoints(tables: &Accepted, purpose: u64) -> [Checkpoint; 16]
+    ensures { result ≡ checkpoints (present tables.now.rows.shape.n (line_checkpoint (view_of (tables_in tables.now)) purpose)) }
 {
-    let shape = rows.shape;
+    let shape = tables.rows.shape;
     if !advances(purpose) {
         return oldest_set(shape.n);
     }
     let newest = finder::newest_set(shape);
-    let found = finder::find_from(rows, sent, received, newest);
-    found.set
+    finder::find_from(tables, newest).set
 }
 
 // How many checkpoints go after the line checkpoint, of so many.
@@ -190,33 +184,32 @@ fn resend_from(n: usize, received: [Count; 256], sent: [Count; 256]) -> Resend
     Resend { first, last }
 }
 
-// The questions of a move: of the tables, then 11.
-pub fn question(
+// The tables of a move, if no question fails: theirs, then 11.
+pub fn accept<'a>(
     shape: Shape,
-    sent: &[Counter],
-    received: &[Counter],
+    sent: &'a [Counter],
+    received: &'a [Counter],
     purpose: u64,
-) -> Result<(), Question>
-    ensures { by_number result ≡ answer_to (move_question (lent shape sent.now received.now) purpose) }
+) -> Result<Accepted<'a>, Question>
+    ensures { accepted_in result ≡ answer_with (move_question (lent shape sent.now received.now) purpose) (lent shape sent.now received.now) }
 {
-    tables::check(shape, sent, received)?;
+    let tables = accepted::accept(shape, sent, received)?;
     if !book::is_purpose(purpose) {
         return Err(Question::Purpose);
     }
-    Ok(())
+    Ok(tables)
 }
 
-// The plan of a move. Inner: asks for the rows of accepted tables.
-pub fn plan_move(rows: TableRows, sent: &[Counter], received: &[Counter], purpose: u64) -> Plan
-    requires { AcceptedRows rows sent.now received.now }
-    ensures { result ≡ plan_of rows.shape.n (planned (view_of (lent rows.shape sent.now received.now)) purpose) }
+// The plan of a move.
+pub fn plan_move(tables: &Accepted, purpose: u64) -> Plan
+    ensures { result ≡ plan_of tables.now.rows.shape.n (planned (view_of (tables_in tables.now)) purpose) }
 {
-    let shape = rows.shape;
-    let line = line_checkpoints(rows, sent, received, purpose);
+    let shape = tables.rows.shape;
+    let line = line_checkpoints(tables, purpose);
     let kept = kept_from(shape, line, purpose);
-    let off_received = line_rows(rows, received, line);
+    let off_received = line_rows(tables.rows, tables.received, line);
     let off_sent = by_sender(shape.n, off_received);
-    let sent_rows = line_rows(rows, sent, line);
+    let sent_rows = line_rows(tables.rows, tables.sent, line);
     let resend = resend_from(shape.n, off_sent, sent_rows);
     let order = order_to(shape, line, purpose, resend);
     let off = TakenOff {
@@ -240,8 +233,6 @@ pub fn restart_order(
 ) -> Result<Order, Question>
     ensures { by_number result ≡ answer_with (move_question (lent shape sent.now received.now) purpose) (order_given (lent shape sent.now received.now) purpose) }
 {
-    question(shape, sent, received, purpose)?;
-    let rows = book::rows_of(shape);
-    let plan = plan_move(rows, sent, received, purpose);
-    Ok(plan.order)
+    let tables = accept(shape, sent, received, purpose)?;
+    Ok(plan_move(&tables, purpose).order)
 }

@@ -136,7 +136,10 @@ module _ (state shape sent received message out lengths : List ℕ) {q : ℕ}
         receive_refused some = step_refused receive_long receive_inside state out lengths _ _ _ same none of_receive receive_left some
 
         pub receive_done : r ≡ 0 → {after : ParticipantAfter}
-            → after ≡ record { state = participant.state_after (lent given sent received) machine message out; lengths = participant.lengths_after (lent given sent received) machine message out }
+            → after ≡ record {
+              state = participant.state_after (lent given sent received) machine message out;
+              lengths = participant.lengths_after (lent given sent received) machine message out;
+            }
             → {state' : List ℕ} → state' ≡ sets state 0 (participant_words after.state)
             → {lengths' : List ℕ} → lengths' ≡ sets lengths 0 (number_words after.lengths) → Received 0 state' out' lengths'
         unfolding participant_receive_answer participant_receive_state participant_receive_out participant_receive_lengths participant.bytes_after
@@ -185,7 +188,10 @@ module _ (shape sent received : List ℕ) (me purpose : ℕ) (state out lengths 
         begin_refused some = step_refused begin_long begin_inside state out lengths _ _ _ same none of_begin begin_left some
 
         pub begin_done : r ≡ 0 → {after : InitiatorAfter}
-            → after ≡ record { state = initiator.state_begun (lent given sent received) (as_process p) purpose out; lengths = initiator.lengths_begun (lent given sent received) (as_process p) purpose out }
+            → after ≡ record {
+              state = initiator.state_begun (lent given sent received) (as_process p) purpose out;
+              lengths = initiator.lengths_begun (lent given sent received) (as_process p) purpose out;
+            }
             → {state' : List ℕ} → state' ≡ sets state 0 (initiator_words after.state)
             → {lengths' : List ℕ} → lengths' ≡ sets lengths 0 (number_words after.lengths) → Begun 0 state' out' lengths'
         unfolding initiator_begin_answer initiator_begin_state initiator_begin_out initiator_begin_lengths initiator.bytes_begun
@@ -234,7 +240,10 @@ module _ (state shape sent received message out lengths : List ℕ) {q : ℕ}
         report_refused some = step_refused report_long report_inside state out lengths _ _ _ same none of_report report_left some
 
         pub report_done : r ≡ 0 → {after : InitiatorAfter}
-            → after ≡ record { state = initiator.state_after (lent given sent received) machine message out; lengths = initiator.lengths_after (lent given sent received) machine message out }
+            → after ≡ record {
+              state = initiator.state_after (lent given sent received) machine message out;
+              lengths = initiator.lengths_after (lent given sent received) machine message out;
+            }
             → {state' : List ℕ} → state' ≡ sets state 0 (initiator_words after.state)
             → {lengths' : List ℕ} → lengths' ≡ sets lengths 0 (number_words after.lengths) → Reported 0 state' out' lengths'
         unfolding initiator_receive_answer initiator_receive_state initiator_receive_out initiator_receive_lengths initiator.bytes_after

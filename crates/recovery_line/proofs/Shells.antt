@@ -1,6 +1,6 @@
 -- What every exported call has in common. The question of the lengths comes first, then those of the call inside; an answer that is
 -- not 0 leaves all that was lent as it was, and 0 leaves the results.
-use mathlib.Core.Path.{◌≡◌, refl, sym, ap, ◌∙◌}
+use mathlib.Core.Path.{◌≡◌, sym, ◌∙◌}
 use mathlib.Core.Bool.{◌&&◌}
 use mathlib.Core.List.{List}
 use Prim.Native.Nat.{ℕ, zero, suc}

@@ -1,40 +1,13 @@
--- When an entry is formed, and the questions put to it.
-use mathlib.Core.Path.{◌≡◌, sym}
-use mathlib.Core.Bool.{true, false, ◌&&◌, or-false}
+-- The questions put to an entry.
+use mathlib.Core.Path.{◌≡◌}
+use mathlib.Core.Bool.{true, false, ◌&&◌}
 use Prim.Native.Nat.{ℕ, ◌≤◌}
-use native.Mathlib.Omega.{arith}
-use lib.Dec.{ltb, leb}
-use borrow.Author.Tests.{le-ltb, eq-eqb, ne_eqb}
 use Rattle.lists.proofs.Tests.{and_both, both_and, and_first, and_second}
 use Rattle.book.specs.Names.{is_named}
 use Rattle.book.specs.InTurn.{ask}
 use Rattle.book.proofs.Names.{named_in}
 use Rattle.book.proofs.Questions.{then_none, asked_yes}
-use Rattle.resend.specs.Questions.{rises, entry_formed, entry_question}
-
--- ---- after an entry of the channel from s to r
-
-module _ (s r sender receiver : ℕ) where
-  -- by sender, then receiver
-  pub by_sender : (sender ≡ s → ⊥) → rises s r sender receiver ≡ ltb s sender
-  by_sender apart = rw (ne_eqb s sender (λ e. apart (sym e))) (or-false (ltb s sender))
-
-  pub by_receiver : sender ≡ s → rises s r sender receiver ≡ ltb r receiver
-  by_receiver e = rw (le-ltb s sender (omega arith), eq-eqb s sender (sym e))
-
-  module _ (first last : ℕ) where
-    pub not_rising : rises s r sender receiver ≡ false → entry_formed s r sender receiver first last ≡ false
-    not_rising e = and_first (rises s r sender receiver) _ e
-
-    pub same_process : sender ≡ receiver → entry_formed s r sender receiver first last ≡ false
-    same_process e = and_second (rises s r sender receiver) _ (rw (eq-eqb sender receiver e))
-
-    -- what is left to ask is whether the first is a message, and not past the last
-    pub formed_last : rises s r sender receiver ≡ true → (sender ≡ receiver → ⊥)
-        → entry_formed s r sender receiver first last ≡ (leb 1 first && leb first last)
-    formed_last e h = rw (e, ne_eqb sender receiver h)
-
--- ---- the questions
+use Rattle.resend.specs.Questions.{entry_formed, entry_question}
 
 module _ (n s r sender receiver first last : ℕ) where
   pub sender_not_named : is_named n sender ≡ false → entry_question n s r sender receiver first last ≡ 10

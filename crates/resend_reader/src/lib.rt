@@ -1,10 +1,10 @@
 #![tactic(auto)]
 // Reading a list of what to send again (document 02, E5).
 ghost use Rattle.std.specs.Prelude.{◌≡◌, ◌≤◌};
-ghost use Rattle.book.specs.Bounds.{largest, most_processes};
+ghost use Rattle.book.specs.Bounds.{most_processes};
 ghost use Rattle.book.specs.InTurn.{answer_with, answer_to};
 ghost use Rattle.book.specs.Numbers.{by_number};
-ghost use Rattle.resend.specs.Questions.{rises, entry_formed, entry_question, list_question};
+ghost use Rattle.resend.specs.Questions.{entry_formed, entry_question, list_question};
 ghost use Rattle.resend.specs.Calls.{list_read};
 ghost use Rattle.resend_reader.specs.Parts.{EntryFound, question_from, entries_from};
 
@@ -37,27 +37,15 @@ fn read_entry(s: &[u8], at: usize) -> Option<(Entry, usize)>
     Some((entry, next))
 }
 
-// Does an entry rise, by sender, then receiver, after one of the channel from s to r?
-fn comes_after(s: u64, r: u64, entry: Entry) -> bool
-    ensures { result ≡ rises s r entry.sender entry.receiver }
-{
-    if entry.sender != s {
-        return s < entry.sender;
-    }
-    r < entry.receiver
-}
-
-// Does it rise, and has it two processes, and a first message that is not past the last?
+// Does an entry rise, by sender, then receiver, after one of the channel from s to r, and has it two processes, and a first message
+// that is not past the last?
 fn entry_formed(s: u64, r: u64, entry: Entry) -> bool
     ensures { result ≡ entry_formed s r entry.sender entry.receiver entry.first entry.last }
 {
-    if !comes_after(s, r, entry) {
-        return false;
-    }
-    if entry.sender == entry.receiver {
-        return false;
-    }
-    1 <= entry.first && entry.first <= entry.last
+    (s, r) < (entry.sender, entry.receiver)
+        && entry.sender != entry.receiver
+        && 1 <= entry.first
+        && entry.first <= entry.last
 }
 
 // Questions 10 and 21 of an entry.
@@ -74,14 +62,6 @@ fn entry_question(n: usize, s: u64, r: u64, entry: Entry) -> Result<(), Question
         return Err(Question::ListFormed);
     }
     Ok(())
-}
-
-// A message's number as a counter.
-fn counter(v: u64) -> Count
-    requires { v ≤ largest }
-    ensures { result.0 ≡ v }
-{
-    Count(v as Counter)
 }
 
 // So many entries from a place on, up to the end of the bytes.
@@ -102,8 +82,8 @@ fn read_entries(s: &[u8], at: usize, n: usize, count: u64) -> Result<Resend, Que
         sender = entry.sender;
         receiver = entry.receiver;
         let place = (sender as usize - 1) * book::ROW_WIDTH + (receiver as usize - 1);
-        first[place] = counter(entry.first);
-        last[place] = counter(entry.last);
+        first[place] = Count(entry.first as Counter);
+        last[place] = Count(entry.last as Counter);
         next = after;
     }
     if next != s.len() {

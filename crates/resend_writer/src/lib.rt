@@ -42,7 +42,7 @@ fn entry_size(i: usize, first: Count, last: Count) -> usize
 {
     let sender = varint::size_of((i / book::ROW_WIDTH + 1) as u64);
     let receiver = varint::size_of((i % book::ROW_WIDTH + 1) as u64);
-    sender + receiver + varint::size_of(book::wide(first.0)) + varint::size_of(book::wide(last.0))
+    sender + receiver + varint::size_of(u64::from(first.0)) + varint::size_of(u64::from(last.0))
 }
 
 // How many bytes the entries take.
@@ -77,8 +77,8 @@ fn put_entry(i: usize, first: Count, last: Count, out: &mut [u8], at: usize) -> 
 {
     let second = varint::put_number((i / book::ROW_WIDTH + 1) as u64, out, at);
     let third = varint::put_number((i % book::ROW_WIDTH + 1) as u64, out, second);
-    let fourth = varint::put_number(book::wide(first.0), out, third);
-    varint::put_number(book::wide(last.0), out, fourth)
+    let fourth = varint::put_number(u64::from(first.0), out, third);
+    varint::put_number(u64::from(last.0), out, fourth)
 }
 
 // The entries, written at a place; it returns the place after them.

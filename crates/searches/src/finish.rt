@@ -1,7 +1,6 @@
 // Document 01, "Program `line`": turns, lowest waiting strand first, until nothing waits; and where everybody stands then.
 ghost use Rattle.std.specs.Prelude.{◌≡◌, ◌-◌, ◌≤◌};
-ghost use Rattle.book.specs.Lent.{lent};
-ghost use Rattle.book.specs.Accepted.{AcceptedRows};
+ghost use Rattle.accepted.specs.Holding.{tables_in};
 ghost use Rattle.book.specs.View.{count};
 ghost use Rattle.lists.specs.Over.{sum_to};
 ghost use Rattle.line_theory.specs.OfTables.{view_of};
@@ -12,7 +11,8 @@ ghost use Rattle.demand3.specs.Statement.{most_delivered};
 ghost use Rattle.searches.specs.Lowest.{lowest_waiting, to_end};
 ghost use Rattle.searches.specs.Parts.{Started, Among};
 
-use book::{Checkpoint, Counter, Process, Shape, TableRows};
+use accepted::Accepted;
+use book::{Checkpoint, Process, Shape};
 use session::Session;
 
 // The lowest process on whose strand a message waits; 0 for none.
@@ -29,22 +29,15 @@ fn lowest_waiting(lengths: [usize; 16]) -> Process
 
 // Turns until nothing waits. Inner: asks for a session that has just started, with room: no question refuses its turns, and they
 // come to an end.
-pub(crate) fn finish(
-    session: Session,
-    rows: TableRows,
-    sent: &[Counter],
-    received: &[Counter],
-    strands: &mut [u8],
-) -> Session
-    requires accepted_rows { AcceptedRows rows sent.now received.now }
-    requires started { Started (lent rows.shape sent.now received.now) session strands.old }
-    ensures { result ≡ (to_end (lent rows.shape sent.now received.now) (most_delivered (view_of (lent rows.shape sent.now received.now))) (record { session = session; strands = strands.old })).session }
+pub(crate) fn finish(session: Session, tables: &Accepted, strands: &mut [u8]) -> Session
+    requires { Started (tables_in tables.now) session strands.old }
+    ensures { result ≡ (to_end (tables_in tables.now) (most_delivered (view_of (tables_in tables.now))) (record { session = session; strands = strands.old })).session }
 {
     let mut next = session;
     let lengths = next.lengths;
     let mut p = lowest_waiting(lengths);
     while p.0 != 0 {
-        next = turns::take_turn(next, rows, sent, received, p, strands);
+        next = turns::take_turn(next, tables, p, strands);
         let lengths = next.lengths;
         p = lowest_waiting(lengths);
     }

@@ -3,6 +3,7 @@
 mod finish;
 
 ghost use Rattle.std.specs.Prelude.{◌≡◌, ◌≤◌};
+ghost use Rattle.accepted.specs.Holding.{tables_in};
 ghost use Rattle.book.specs.Lent.{lent};
 ghost use Rattle.book.specs.InTurn.{answer_with};
 ghost use Rattle.book.specs.Numbers.{by_number};
@@ -11,6 +12,7 @@ ghost use Rattle.searches.specs.Lowest.{strands_inside, searched};
 ghost use Rattle.searches.specs.Run.{as_processes, run_question, sent_run, received_run, run_end, CarriesDemand3};
 ghost use Rattle.searches.specs.Search.{search_question, search_end, EndedThere};
 
+use accepted::Accepted;
 use book::{Checkpoint, Counter, Process, Question, Shape};
 use session::Session;
 
@@ -102,20 +104,13 @@ pub fn run(
 }
 
 // A session is started on strands of its own, and turns taken until nothing waits. Inner: asks for what `search` has asked.
-fn start_and_finish(
-    shape: Shape,
-    sent: &[Counter],
-    received: &[Counter],
-    initiator: Process,
-    purpose: u64,
-) -> Session
-    requires { search_question (lent shape sent.now received.now) initiator purpose ≡ 0 }
-    ensures { result ≡ (searched (lent shape sent.now received.now) initiator purpose).session }
+fn start_and_finish(tables: &Accepted, initiator: Process, purpose: u64) -> Session
+    requires { search_question (tables_in tables.now) initiator purpose ≡ 0 }
+    ensures { result ≡ (searched (tables_in tables.now) initiator purpose).session }
 {
-    let rows = book::rows_of(shape);
     let mut strands = strands_inside();
-    let begun = turns::take_start(rows, sent, received, initiator, purpose, &mut strands);
-    finish::finish(begun, rows, sent, received, &mut strands)
+    let begun = turns::take_start(tables, initiator, purpose, &mut strands);
+    finish::finish(begun, tables, &mut strands)
 }
 
 // A search from its start to its end: turns are taken, lowest waiting strand first, until nothing waits; then everybody has
@@ -130,11 +125,11 @@ pub fn search(
     ensures answer { by_number result ≡ answer_with (search_question (lent shape sent.now received.now) initiator purpose) (search_end (lent shape sent.now received.now) initiator purpose) }
     ensures ended_there { EndedThere (lent shape sent.now received.now) initiator purpose }
 {
-    tables::check(shape, sent, received)?;
-    initiator::begin_question(shape.n, initiator, purpose)?;
-    let ended = start_and_finish(shape, sent, received, initiator, purpose);
+    let tables = accepted::accept(shape, sent, received)?;
+    initiator::begin_question(tables.rows.shape.n, initiator, purpose)?;
+    let ended = start_and_finish(&tables, initiator, purpose);
     let set = finish::stands(ended);
-    let newer = finish::newer(shape, set);
+    let newer = finish::newer(tables.rows.shape, set);
     let machine = ended.machine;
     Ok(SearchEnd {
         set,

@@ -4,8 +4,7 @@
 mod held;
 
 ghost use Rattle.std.specs.Prelude.{◌≡◌, true, false, not, ◌&&◌, ◌+◌, ◌-◌, ◌≤◌, ◌<◌, length, eqb};
-ghost use Rattle.book.specs.Lent.{lent};
-ghost use Rattle.book.specs.Accepted.{AcceptedRows};
+ghost use Rattle.accepted.specs.Holding.{tables_in};
 ghost use Rattle.book.specs.Bounds.{most_processes};
 ghost use Rattle.lists.specs.Over.{all_to};
 ghost use Rattle.strands.specs.Strands.{strand_start};
@@ -13,7 +12,8 @@ ghost use Rattle.session.specs.Held.{is_report, is_stray};
 ghost use Rattle.session.specs.Fits.{session_named, session_purposes, is_absent, place_fits, session_fits};
 ghost use Rattle.session_check.specs.Parts.{all_named, all_purposes, initiator_on, machine_fits, length_fits, held_fits, PlaceTold};
 
-use book::{Checkpoint, Count, Counter, Process, TableRows};
+use accepted::Accepted;
+use book::{Checkpoint, Count, Process};
 pub use held::held_on;
 use initiator::Initiator;
 use participant::{Participant, Stage};
@@ -30,8 +30,8 @@ fn is_absent(p: Participant) -> bool
         && p.purpose == 0
         && p.stage == Stage::Before
         && p.candidate == Checkpoint(0)
-        && matrix::same(p.row, none)
-        && matrix::same(p.column, none)
+        && p.row == none
+        && p.column == none
 }
 
 // Are the processes named at each place that is not empty, and is each another process than the initiator that it names?
@@ -95,17 +95,9 @@ pub fn purposes(session: Session) -> bool
 }
 
 // Does the initiator's machine fit, and is it the session's?
-fn initiator_fits(
-    rows: TableRows,
-    sent: &[Counter],
-    received: &[Counter],
-    initiator: Process,
-    purpose: u64,
-    machine: Initiator,
-) -> bool
-    requires accepted_rows { AcceptedRows rows sent.now received.now }
-    requires le_initiator { (1 ≤ initiator.0) × (initiator.0 ≤ rows.shape.n) }
-    ensures { result ≡ initiator_on (lent rows.shape sent.now received.now) initiator.0 purpose machine }
+fn initiator_fits(tables: &Accepted, initiator: Process, purpose: u64, machine: Initiator) -> bool
+    requires { (1 ≤ initiator.0) × (initiator.0 ≤ tables.now.rows.shape.n) }
+    ensures { result ≡ initiator_on (tables_in tables.now) initiator.0 purpose machine }
 {
     let me = machine.me;
     if me.0 != initiator.0 {
@@ -114,22 +106,19 @@ fn initiator_fits(
     if machine.purpose != purpose {
         return false;
     }
-    machine.fits(rows, sent, received)
+    machine.fits(tables)
 }
 
 // Does the machine at participant k's place fit, and is it of the session?
 fn machine_fits(
-    rows: TableRows,
-    sent: &[Counter],
-    received: &[Counter],
+    tables: &Accepted,
     initiator: Process,
     purpose: u64,
     p: Participant,
     k: usize,
 ) -> bool
-    requires accepted_rows { AcceptedRows rows sent.now received.now }
-    requires k_lt_n { k < rows.shape.n }
-    ensures { result ≡ machine_fits (lent rows.shape sent.now received.now) initiator.0 purpose p k }
+    requires { k < tables.now.rows.shape.n }
+    ensures { result ≡ machine_fits (tables_in tables.now) initiator.0 purpose p k }
 {
     let me = p.me;
     let its = p.initiator;
@@ -142,7 +131,7 @@ fn machine_fits(
     if p.purpose != purpose {
         return false;
     }
-    p.fits(rows, sent, received)
+    p.fits(tables)
 }
 
 // Does what waits lie within its slot and within a buffer of so many bytes?
@@ -189,9 +178,7 @@ fn absent_holds(p: Participant, waits: usize) -> Waiting
 
 // What the strand of process k's place holds, a report only if it passes at the initiator; stray where the place does not fit.
 fn place_holds(
-    rows: TableRows,
-    sent: &[Counter],
-    received: &[Counter],
+    tables: &Accepted,
     initiator: Process,
     purpose: u64,
     p: Participant,
@@ -201,18 +188,16 @@ fn place_holds(
     strands: &[u8],
     k: usize,
 ) -> Waiting
-    requires accepted_rows { AcceptedRows rows sent.now received.now }
-    requires le_initiator { (1 ≤ initiator.0) × (k < 16) }
-    ensures place_told { PlaceTold (lent rows.shape sent.now received.now) initiator.0 purpose p awaited ended waits strands.now k result }
-    ensures waits_in_bounds { is_report result ≡ true → strand_start rows.shape.n (initiator.0 - 1) k + waits ≤ length strands.now }
+    requires { (1 ≤ initiator.0) × (k < 16) }
+    ensures place_told { PlaceTold (tables_in tables.now) initiator.0 purpose p awaited ended waits strands.now k result }
+    ensures waits_in_bounds { is_report result ≡ true → strand_start tables.now.rows.shape.n (initiator.0 - 1) k + waits ≤ length strands.now }
 {
-    let shape = rows.shape;
-    let n = shape.n;
+    let n = tables.rows.shape.n;
     let stage = p.stage;
     if !machine::is_participant(n, initiator.0 - 1, k) {
         return absent_holds(p, waits);
     }
-    if !machine_fits(rows, sent, received, initiator, purpose, p, k) {
+    if !machine_fits(tables, initiator, purpose, p, k) {
         return Waiting::Stray;
     }
     if !within(n, initiator.0 - 1, k, waits, strands.len()) {
@@ -226,19 +211,12 @@ fn place_holds(
 }
 
 // Does each place fit, with its strand?
-fn places_fit(
-    session: Session,
-    rows: TableRows,
-    sent: &[Counter],
-    received: &[Counter],
-    strands: &[u8],
-) -> bool
-    requires accepted_rows { AcceptedRows rows sent.now received.now }
+fn places_fit(session: Session, tables: &Accepted, strands: &[u8]) -> bool
     requires le_initiator { 1 ≤ session.initiator.0 }
-    requires n_value { session.machine.n ≡ rows.shape.n }
-    ensures { result ≡ all_to most_processes (place_fits (lent rows.shape sent.now received.now) session strands.now) }
+    requires n_value { session.machine.n ≡ tables.now.rows.shape.n }
+    ensures { result ≡ all_to most_processes (place_fits (tables_in tables.now) session strands.now) }
 {
-    let shape = rows.shape;
+    let n = tables.rows.shape.n;
     let initiator = session.initiator;
     let machine = session.machine;
     let awaited = machine.awaited;
@@ -248,9 +226,7 @@ fn places_fit(
         let p = participants[k];
         let waits = lengths[k];
         let w = place_holds(
-            rows,
-            sent,
-            received,
+            tables,
             initiator,
             session.purpose,
             p,
@@ -264,7 +240,7 @@ fn places_fit(
             return false;
         }
         if w == Waiting::Report
-            && held::above(shape.n, initiator, machine, waits, strands, k) == Waiting::Stray
+            && held::above(n, initiator, machine, waits, strands, k) == Waiting::Stray
         {
             return false;
         }
@@ -273,28 +249,20 @@ fn places_fit(
 }
 
 // Does the session fit the tables (question 13)?
-pub fn fits(
-    session: Session,
-    rows: TableRows,
-    sent: &[Counter],
-    received: &[Counter],
-    strands: &[u8],
-) -> bool
-    requires accepted_rows { AcceptedRows rows sent.now received.now }
-    requires le_initiator { (1 ≤ session.initiator.0) × (session.initiator.0 ≤ rows.shape.n) }
-    ensures { result ≡ session_fits (lent rows.shape sent.now received.now) session strands.now }
+pub fn fits(session: Session, tables: &Accepted, strands: &[u8]) -> bool
+    requires { (1 ≤ session.initiator.0) × (session.initiator.0 ≤ tables.now.rows.shape.n) }
+    ensures { result ≡ session_fits (tables_in tables.now) session strands.now }
 {
-    let shape = rows.shape;
     let initiator = session.initiator;
     let machine = session.machine;
-    if session.n != shape.n {
+    if session.n != tables.rows.shape.n {
         return false;
     }
-    if !initiator_fits(rows, sent, received, initiator, session.purpose, machine) {
+    if !initiator_fits(tables, initiator, session.purpose, machine) {
         return false;
     }
     if machine::TALLY_LIMIT <= session.delivered {
         return false;
     }
-    places_fit(session, rows, sent, received, strands)
+    places_fit(session, tables, strands)
 }

@@ -5,14 +5,16 @@ ghost use Rattle.std.specs.Prelude.{◌≡◌, List, [], ℕ, suc, ◌-◌, ◌�
 ghost use Rattle.book.specs.Lent.{lent};
 ghost use Rattle.lists.specs.Over.{tab};
 ghost use Rattle.machine.specs.Named.{tally_limit};
-ghost use Rattle.book.specs.Accepted.{AcceptedRows, IsProcess};
+ghost use Rattle.accepted.specs.Holding.{tables_in};
+ghost use Rattle.book.specs.Accepted.{IsProcess};
 ghost use Rattle.participant.specs.Calls.{read_by};
 ghost use Rattle.initiator.specs.Calls as calls;
 ghost use Rattle.session.specs.Workers.{participant_at};
 ghost use Rattle.session.specs.Calls.{no_session};
 ghost use Rattle.session.specs.Steps.{place_at_start, begun, delivered_on, on_strand, deliver_down, deliver_up, as_before};
 
-use book::{Counter, Process, Shape, TableRows};
+use accepted::Accepted;
+use book::{Process, Shape};
 use initiator::Initiator;
 use mail::Outgoing;
 use message::{Head, Message};
@@ -64,18 +66,12 @@ fn first_places(shape: Shape, initiator: Process, purpose: u64) -> [Participant;
 }
 
 // A session begins: the initiator's first step, everybody else before the invitation.
-pub fn begin(
-    rows: TableRows,
-    sent: &[Counter],
-    received: &[Counter],
-    initiator: Process,
-    purpose: u64,
-) -> Turned
-    requires { AcceptedRows rows sent.now received.now × IsProcess rows initiator.0 }
-    ensures { result ≡ begun (lent rows.shape sent.now received.now) initiator purpose }
+pub fn begin(tables: &Accepted, initiator: Process, purpose: u64) -> Turned
+    requires { IsProcess tables.now.rows initiator.0 }
+    ensures { result ≡ begun (tables_in tables.now) initiator purpose }
 {
-    let shape = rows.shape;
-    let next = initiator::first_step(rows, sent, received, initiator, purpose);
+    let shape = tables.rows.shape;
+    let next = initiator::first_step(tables, initiator, purpose);
     let machine = next.state;
     let outgoing = next.outgoing;
     let participants = first_places(shape, initiator, purpose);
@@ -132,26 +128,19 @@ fn on_strand(k: usize, initiator: usize, outgoing: Outgoing) -> Outgoing
 }
 
 // Participant k takes the step that the message asks for.
-pub fn deliver_down(
-    session: Session,
-    rows: TableRows,
-    sent: &[Counter],
-    received: &[Counter],
-    k: usize,
-    message: Message,
-) -> Turned
-    requires accepted_rows { AcceptedRows rows sent.now received.now × IsProcess rows (suc k) }
+pub fn deliver_down(session: Session, tables: &Accepted, k: usize, message: Message) -> Turned
+    requires is_process { IsProcess tables.now.rows (suc k) }
     requires k_value { (participant_at session k).me.0 ≡ suc k }
     requires k_value_2 { (participant_at session k).initiator.0 ≡ session.initiator.0 }
     requires le_initiator { (1 ≤ session.initiator.0) × (session.initiator.0 ≤ 16) }
     requires k_bound { (k < 16) × (session.delivered < tally_limit) }
-    ensures { (s : List ℕ) → message ≡ read_by rows.shape.n (participant_at session k) s → result ≡ deliver_down (lent rows.shape sent.now received.now) session k s }
+    ensures { (s : List ℕ) → message ≡ read_by tables.now.rows.shape.n (participant_at session k) s → result ≡ deliver_down (tables_in tables.now) session k s }
 {
     let mut participants = session.participants;
     let p = participants[k];
     let initiator = session.initiator;
     let machine = session.machine;
-    let next = p.step(rows, sent, received, message);
+    let next = p.step(tables, message);
     let outgoing = next.outgoing;
     let state = next.state;
     participants[k] = state;
@@ -162,27 +151,19 @@ pub fn deliver_down(
 }
 
 // The initiator takes the step that k's report asks for.
-pub fn deliver_up(
-    session: Session,
-    rows: TableRows,
-    sent: &[Counter],
-    received: &[Counter],
-    k: usize,
-    s: &[u8],
-) -> Turned
-    requires accepted_rows { AcceptedRows rows sent.now received.now × IsProcess rows session.initiator.0 }
+pub fn deliver_up(session: Session, tables: &Accepted, k: usize, s: &[u8]) -> Turned
+    requires is_process { IsProcess tables.now.rows session.initiator.0 }
     requires me_value { session.machine.me.0 ≡ session.initiator.0 }
-    requires s_value { calls.message_question rows.shape.n session.machine s.now ≡ 0 }
+    requires s_value { calls.message_question tables.now.rows.shape.n session.machine s.now ≡ 0 }
     requires rounds_lt_tally_limit { session.machine.rounds < tally_limit }
     requires k_bound { (k < 16) × (session.delivered < tally_limit) }
-    ensures { result ≡ deliver_up (lent rows.shape sent.now received.now) session k s.now }
+    ensures { result ≡ deliver_up (tables_in tables.now) session k s.now }
 {
-    let shape = rows.shape;
     let machine = session.machine;
     let me = machine.me;
     let participants = session.participants;
-    let message = message::read_message(s, shape.n, me, me).unwrap();
-    let next = machine.step(rows, sent, received, message);
+    let message = message::read_message(s, tables.rows.shape.n, me, me).unwrap();
+    let next = machine.step(tables, message);
     let state = next.state;
     let outgoing = next.outgoing;
     Turned {

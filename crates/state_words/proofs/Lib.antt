@@ -1,3 +1,4 @@
+pub mod Flags
 pub mod Lengths
 pub mod Places
 pub mod Stages

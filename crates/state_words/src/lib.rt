@@ -6,7 +6,7 @@ ghost use Rattle.std.specs.Prelude.{◌≡◌, ◌+◌, ◌≤◌, length};
 ghost use Rattle.std.proofs.lemmas.List.Edits.{sets};
 ghost use Rattle.book.specs.Bounds.{most_processes};
 ghost use Rattle.words.specs.Participant.{participant_length, stage_word, stage_in, participant_words, participant_decodes, participant_from, participant_in};
-ghost use Rattle.words.specs.Initiator.{initiator_length, flag_word, flag_words, flags_at, initiator_words, initiator_decodes, initiator_from, initiator_in};
+ghost use Rattle.words.specs.Initiator.{initiator_length, flag_words, flags_at, initiator_words, initiator_decodes, initiator_from, initiator_in};
 
 use book::{Checkpoint, Process};
 use initiator::Initiator;
@@ -19,16 +19,14 @@ const PARTICIPANT_COUNTERS: usize = layout::PARTICIPANT_WORDS - layout::PARTICIP
 
 const INITIATOR_COUNTERS: usize = layout::INITIATOR_WORDS - layout::INITIATOR_MATRIX_AT;
 
+// A stage's number: a function, so that one proof shows that the variants stand in the order of their words.
 fn stage_word(stage: Stage) -> u64
     ensures { result ≡ stage_word stage }
 {
-    match stage {
-        Stage::Before => 0,
-        Stage::Searching => 1,
-        Stage::Ended => 2,
-    }
+    stage as u64
 }
 
+// The way back is no `From`: neither type is of this crate.
 fn stage_in(w: u64) -> Stage
     ensures { result ≡ stage_in w }
 {
@@ -37,12 +35,6 @@ fn stage_in(w: u64) -> Stage
         1 => Stage::Searching,
         _ => Stage::Ended,
     }
-}
-
-fn flag_word(flag: bool) -> u64
-    ensures { result ≡ flag_word flag }
-{
-    if flag { 1 } else { 0 }
 }
 
 // Do the words from a place on stand for a participant's state?
@@ -66,15 +58,15 @@ pub fn participant_at(n: usize, words: &[u64], at: usize) -> Participant
     requires { at + participant_length ≤ length words.now }
     ensures { result ≡ participant_from n words.now at }
 {
-    let row = words::row_at(words, at + layout::PARTICIPANT_ROW_AT);
-    let column = words::row_at(words, at + layout::PARTICIPANT_COLUMN_AT);
+    let row = words::counts_at(words, at + layout::PARTICIPANT_ROW_AT);
+    let column = words::counts_at(words, at + layout::PARTICIPANT_COLUMN_AT);
     Participant {
         n,
-        me: Process(words::number(words[at + layout::PARTICIPANT_PROCESS_AT])),
-        initiator: Process(words::number(words[at + layout::PARTICIPANT_INITIATOR_AT])),
+        me: Process(words[at + layout::PARTICIPANT_PROCESS_AT] as usize),
+        initiator: Process(words[at + layout::PARTICIPANT_INITIATOR_AT] as usize),
         purpose: words[at + layout::PARTICIPANT_PURPOSE_AT],
         stage: stage_in(words[at + layout::PARTICIPANT_STAGE_AT]),
-        candidate: Checkpoint(words::number(words[at + layout::PARTICIPANT_CANDIDATE_AT])),
+        candidate: Checkpoint(words[at + layout::PARTICIPANT_CANDIDATE_AT] as usize),
         row,
         column,
     }
@@ -88,7 +80,7 @@ pub fn participant_in(words: &[u64]) -> Participant
     if !participant_decodes(words, 0) {
         return participant_at(0, words, 0);
     }
-    participant_at(words::number(words[0]), words, 0)
+    participant_at(words[0] as usize, words, 0)
 }
 
 // The words that a state begins with, to a place on.
@@ -96,9 +88,7 @@ fn put_head(head: &[u64], words: &mut [u64], at: usize)
     requires { at + length head.now ≤ length words.old }
     ensures { words.new ≡ sets words.old at head.now }
 {
-    for i in 0..head.len() {
-        words[at + i] = head[i];
-    }
+    words[at..at + head.len()].copy_from_slice(head);
 }
 
 // A participant's state, to a place on.
@@ -113,16 +103,16 @@ pub fn put_participant(state: Participant, words: &mut [u64], at: usize)
     let row = state.row;
     let column = state.column;
     let head = [
-        words::of_number(state.n),
-        words::of_number(me.0),
-        words::of_number(initiator.0),
+        state.n as u64,
+        me.0 as u64,
+        initiator.0 as u64,
         state.purpose,
         stage_word(stage),
-        words::of_number(candidate.0),
+        candidate.0 as u64,
     ];
     put_head(&head, words, at);
-    words::put_row(row, words, at + layout::PARTICIPANT_ROW_AT);
-    words::put_row(column, words, at + layout::PARTICIPANT_COLUMN_AT);
+    words::put_counts(row, words, at + layout::PARTICIPANT_ROW_AT);
+    words::put_counts(column, words, at + layout::PARTICIPANT_COLUMN_AT);
 }
 
 // Sixteen flags from a place on.
@@ -143,7 +133,7 @@ fn put_flags(flags: [bool; 16], words: &mut [u64], at: usize)
     ensures { words.new ≡ sets words.old at (flag_words flags) }
 {
     for i in 0..book::MOST_PROCESSES {
-        words[at + i] = flag_word(flags[i]);
+        words[at + i] = flags[i] as u64;
     }
 }
 
@@ -180,14 +170,14 @@ pub fn initiator_at(n: usize, words: &[u64], at: usize) -> Initiator
     ensures { result ≡ initiator_from n words.now at }
 {
     let awaited = flags_at(words, at + layout::INITIATOR_AWAITED_AT);
-    let matrix = words::matrix_at(words, at + layout::INITIATOR_MATRIX_AT);
-    let copy = words::matrix_at(words, at + layout::INITIATOR_COPY_AT);
+    let matrix = words::counts_at(words, at + layout::INITIATOR_MATRIX_AT);
+    let copy = words::counts_at(words, at + layout::INITIATOR_COPY_AT);
     Initiator {
         n,
-        me: Process(words::number(words[at + layout::INITIATOR_PROCESS_AT])),
+        me: Process(words[at + layout::INITIATOR_PROCESS_AT] as usize),
         purpose: words[at + layout::INITIATOR_PURPOSE_AT],
         ended: words[at + layout::INITIATOR_ENDED_AT] != 0,
-        candidate: Checkpoint(words::number(words[at + layout::INITIATOR_CANDIDATE_AT])),
+        candidate: Checkpoint(words[at + layout::INITIATOR_CANDIDATE_AT] as usize),
         rounds: words::tally_in(words[at + layout::INITIATOR_ROUNDS_AT]),
         awaited,
         matrix,
@@ -203,7 +193,7 @@ pub fn initiator_in(words: &[u64]) -> Initiator
     if !initiator_decodes(words, 0) {
         return initiator_at(0, words, 0);
     }
-    initiator_at(words::number(words[0]), words, 0)
+    initiator_at(words[0] as usize, words, 0)
 }
 
 // An initiator's state, to a place on.
@@ -217,15 +207,15 @@ pub fn put_initiator(state: Initiator, words: &mut [u64], at: usize)
     let matrix = state.matrix;
     let copy = state.copy;
     let head = [
-        words::of_number(state.n),
-        words::of_number(me.0),
+        state.n as u64,
+        me.0 as u64,
         state.purpose,
-        flag_word(state.ended),
-        words::of_number(candidate.0),
-        words::of_tally(state.rounds),
+        state.ended as u64,
+        candidate.0 as u64,
+        state.rounds as u64,
     ];
     put_head(&head, words, at);
     put_flags(awaited, words, at + layout::INITIATOR_AWAITED_AT);
-    words::put_matrix(matrix, words, at + layout::INITIATOR_MATRIX_AT);
-    words::put_matrix(copy, words, at + layout::INITIATOR_COPY_AT);
+    words::put_counts(matrix, words, at + layout::INITIATOR_MATRIX_AT);
+    words::put_counts(copy, words, at + layout::INITIATOR_COPY_AT);
 }

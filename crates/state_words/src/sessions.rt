@@ -40,7 +40,7 @@ fn places_at(words: &[u64]) -> [Participant; 16]
     let mut places = [none; 16];
     for k in 0..book::MOST_PROCESSES {
         let at = place_start(k);
-        places[k] = crate::participant_at(words::number(words[at]), words, at);
+        places[k] = crate::participant_at(words[at] as usize, words, at);
     }
     places
 }
@@ -78,7 +78,7 @@ fn size_in(words: &[u64]) -> usize
     if !session_decodes(words) {
         return 0;
     }
-    words::number(words[0])
+    words[0] as usize
 }
 
 // The session in a slice of words; one that does not decode has no processes.
@@ -88,7 +88,7 @@ pub fn session_in(words: &[u64]) -> Session
 {
     let n = size_in(words);
     let machine = crate::initiator_at(
-        words::number(words[layout::SESSION_MACHINE_AT]),
+        words[layout::SESSION_MACHINE_AT] as usize,
         words,
         layout::SESSION_MACHINE_AT,
     );
@@ -96,7 +96,7 @@ pub fn session_in(words: &[u64]) -> Session
     let lengths = words::numbers_at(words, layout::SESSION_LENGTHS_AT);
     Session {
         n,
-        initiator: Process(words::number(words[layout::SESSION_INITIATOR_AT])),
+        initiator: Process(words[layout::SESSION_INITIATOR_AT] as usize),
         purpose: words[layout::SESSION_PURPOSE_AT],
         machine,
         participants,
@@ -114,11 +114,11 @@ pub fn put_session(session: Session, words: &mut [u64])
     let machine = session.machine;
     let participants = session.participants;
     let lengths = session.lengths;
-    words[0] = words::of_number(session.n);
-    words[layout::SESSION_INITIATOR_AT] = words::of_number(initiator.0);
+    words[0] = session.n as u64;
+    words[layout::SESSION_INITIATOR_AT] = initiator.0 as u64;
     words[layout::SESSION_PURPOSE_AT] = session.purpose;
     crate::put_initiator(machine, words, layout::SESSION_MACHINE_AT);
     put_places(participants, words);
     words::put_numbers(lengths, words, layout::SESSION_LENGTHS_AT);
-    words[layout::SESSION_DELIVERED_AT] = words::of_tally(session.delivered);
+    words[layout::SESSION_DELIVERED_AT] = session.delivered as u64;
 }

@@ -54,7 +54,7 @@ fn row_question(
 {
     for k in 0..n - 1 {
         let at = start + book::partner_column(j, k);
-        let v = book::wide(table[at]);
+        let v = u64::from(table[at]);
         let before = book::entry_before(table, at, oldest);
         book::counter_question(book::MARK, zeros, before, v)?;
     }

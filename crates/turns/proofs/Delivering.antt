@@ -116,14 +116,13 @@ module _ (tables : Tables) (session : Session) (strands : List ℕ)
 pub deliverable : (rows : TableRows) (sent received : List ℕ) (session : Session) (strands : List ℕ) (k : ℕ)
     → AcceptedRows rows sent received → session_fits (lent rows.shape sent received) session strands ≡ true
     → (1 ≤ session.initiator.0) × (session.initiator.0 ≤ rows.shape.n)
-    → is_participant rows.shape.n (initiator_of session) k ≡ true → Deliverable rows sent received session k
-deliverable rows sent received session strands k given fits named there =
-    let size = accepted_size given.accepted in
+    → is_participant rows.shape.n (initiator_of session) k ≡ true → Deliverable rows session k
+deliverable rows sent received session strands k passed fits named there =
+    let size = accepted_size passed.accepted in
     let below = participant_there rows.shape.n (initiator_of session) k there in
     let few : k < 16 = omega (arith, size, below) in
     let its = fits_its (lent rows.shape sent received) session strands fits k there few in
     record {
-      given = given;
       to_it = omega (arith, below);
       to_initiator = named;
       its_place = its.0;

@@ -2,7 +2,7 @@
 use Rattle.std.specs.Prelude.{◌≡◌, List, ℕ, suc, ◌-◌, ◌≤◌, ◌<◌}
 use Rattle.book.specs.declared.TableRows.{TableRows}
 use Rattle.book.specs.InTurn.{ask}
-use Rattle.book.specs.Accepted.{AcceptedRows, IsProcess}
+use Rattle.book.specs.Accepted.{IsProcess}
 use Rattle.machine.specs.Named.{tally_limit}
 use Rattle.strands.specs.Strands.{have_room, posted}
 use Rattle.session.specs.declared.Session.{Session}
@@ -10,8 +10,7 @@ use Rattle.session.specs.declared.Turned.{Turned}
 use Rattle.session.specs.Workers.{participant_at}
 
 -- a session at whose participant k a message can be delivered, either way
-pub record Deliverable (rows : TableRows) (sent received : List ℕ) (session : Session) (k : ℕ) : Type 0 where
-  pub given : AcceptedRows rows sent received
+pub record Deliverable (rows : TableRows) (session : Session) (k : ℕ) : Type 0 where
   pub to_it : IsProcess rows (suc k)
   pub to_initiator : IsProcess rows session.initiator.0
   pub its_place : (participant_at session k).me.0 ≡ suc k

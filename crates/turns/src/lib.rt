@@ -3,8 +3,8 @@
 mod deliver;
 
 ghost use Rattle.std.specs.Prelude.{◌≡◌, true, ◌&&◌, ◌-◌, ◌≤◌};
+ghost use Rattle.accepted.specs.Holding.{tables_in};
 ghost use Rattle.book.specs.Lent.{lent};
-ghost use Rattle.book.specs.Accepted.{AcceptedRows};
 ghost use Rattle.book.specs.InTurn.{◌then◌, ask, answer_to, answer_with, unless_refused};
 ghost use Rattle.book.specs.Numbers.{by_number};
 ghost use Rattle.machine.specs.Named.{participant_named};
@@ -14,7 +14,8 @@ ghost use Rattle.session.specs.Steps.{with_posted};
 ghost use Rattle.session.specs.Calls.{start_question, session_started, strands_started, turn_question, session_after, strands_after};
 ghost use Rattle.turns.specs.Parts.{room_asked, strands_with};
 
-use book::{Counter, Process, Question, Shape, TableRows};
+use accepted::Accepted;
+use book::{Counter, Process, Question, Shape};
 use session::{Session, Turned};
 
 // What a step sends is put on the strands, for a caller that has made sure of the room.
@@ -62,45 +63,37 @@ pub fn start(
     ensures answer { by_number result ≡ answer_with (start_question (lent shape sent.now received.now) initiator purpose strands.old) (session_started (lent shape sent.now received.now) initiator purpose strands.old) }
     ensures strands_after { strands.new ≡ strands_started (lent shape sent.now received.now) initiator purpose strands.old }
 {
-    tables::check(shape, sent, received)?;
-    initiator::begin_question(shape.n, initiator, purpose)?;
-    let rows = book::rows_of(shape);
-    let begun = session_steps::begin(rows, sent, received, initiator, purpose);
-    post_if_room(begun, shape.n, strands)
+    let tables = accepted::accept(shape, sent, received)?;
+    initiator::begin_question(tables.rows.shape.n, initiator, purpose)?;
+    let begun = session_steps::begin(&tables, initiator, purpose);
+    post_if_room(begun, tables.rows.shape.n, strands)
 }
 
-// A start, without the questions. Inner: asks for the rows of accepted tables, and a start that no question refuses.
+// A start, without the questions. Inner: asks for a start that no question refuses.
 pub fn take_start(
-    rows: TableRows,
-    sent: &[Counter],
-    received: &[Counter],
+    tables: &Accepted,
     initiator: Process,
     purpose: u64,
     strands: &mut [u8],
 ) -> Session
-    requires accepted_rows { AcceptedRows rows sent.now received.now }
-    requires strands_value { start_question (lent rows.shape sent.now received.now) initiator purpose strands.old ≡ 0 }
-    ensures value { result ≡ session_started (lent rows.shape sent.now received.now) initiator purpose strands.old }
-    ensures strands_after { strands.new ≡ strands_started (lent rows.shape sent.now received.now) initiator purpose strands.old }
+    requires { start_question (tables_in tables.now) initiator purpose strands.old ≡ 0 }
+    ensures value { result ≡ session_started (tables_in tables.now) initiator purpose strands.old }
+    ensures strands_after { strands.new ≡ strands_started (tables_in tables.now) initiator purpose strands.old }
 {
-    let shape = rows.shape;
-    let turned = session_steps::begin(rows, sent, received, initiator, purpose);
-    post(turned, shape.n, strands)
+    let turned = session_steps::begin(tables, initiator, purpose);
+    post(turned, tables.rows.shape.n, strands)
 }
 
 // Questions 10, 11 and 13 of a turn, on accepted tables.
 fn session_question(
     session: Session,
-    rows: TableRows,
-    sent: &[Counter],
-    received: &[Counter],
+    tables: &Accepted,
     p: Process,
     strands: &[u8],
 ) -> Result<(), Question>
-    requires { AcceptedRows rows sent.now received.now }
-    ensures { by_number result ≡ answer_to (ask 10 (participant_named rows.shape.n p.0 session.initiator.0 && session_named rows.shape.n session) then λ _. ask 11 (session_purposes session) then λ _. ask 13 (session_fits (lent rows.shape sent.now received.now) session strands.now)) }
+    ensures { by_number result ≡ answer_to (ask 10 (participant_named tables.now.rows.shape.n p.0 session.initiator.0 && session_named tables.now.rows.shape.n session) then λ _. ask 11 (session_purposes session) then λ _. ask 13 (session_fits (tables_in tables.now) session strands.now)) }
 {
-    let shape = rows.shape;
+    let shape = tables.rows.shape;
     let initiator = session.initiator;
     if !machine::participant_named(shape.n, p, initiator) {
         return Err(Question::Named);
@@ -111,7 +104,7 @@ fn session_question(
     if !session_check::purposes(session) {
         return Err(Question::Purpose);
     }
-    if !session_check::fits(session, rows, sent, received, strands) {
+    if !session_check::fits(session, tables, strands) {
         return Err(Question::StateFits);
     }
     Ok(())
@@ -130,33 +123,23 @@ pub fn turn(
     ensures answer { by_number result ≡ answer_with (turn_question (lent shape sent.now received.now) session p strands.old) (session_after (lent shape sent.now received.now) session p strands.old) }
     ensures strands_after { strands.new ≡ strands_after (lent shape sent.now received.now) session p strands.old }
 {
-    tables::check(shape, sent, received)?;
-    let rows = book::rows_of(shape);
-    session_question(session, rows, sent, received, p, strands)?;
+    let tables = accepted::accept(shape, sent, received)?;
+    session_question(session, &tables, p, strands)?;
     let lengths = session.lengths;
     let place = p.0 - 1;
     if lengths[place] == 0 {
         return Err(Question::Waiting);
     }
-    let turned = deliver::deliver(session, rows, sent, received, place, strands);
-    post_if_room(turned, shape.n, strands)
+    let turned = deliver::deliver(session, &tables, place, strands);
+    post_if_room(turned, tables.rows.shape.n, strands)
 }
 
-// A turn, without the questions. Inner: asks for the rows of accepted tables, and a turn that no question refuses.
-pub fn take_turn(
-    session: Session,
-    rows: TableRows,
-    sent: &[Counter],
-    received: &[Counter],
-    p: Process,
-    strands: &mut [u8],
-) -> Session
-    requires accepted_rows { AcceptedRows rows sent.now received.now }
-    requires strands_value { turn_question (lent rows.shape sent.now received.now) session p strands.old ≡ 0 }
-    ensures value { result ≡ session_after (lent rows.shape sent.now received.now) session p strands.old }
-    ensures strands_after { strands.new ≡ strands_after (lent rows.shape sent.now received.now) session p strands.old }
+// A turn, without the questions. Inner: asks for a turn that no question refuses.
+pub fn take_turn(session: Session, tables: &Accepted, p: Process, strands: &mut [u8]) -> Session
+    requires { turn_question (tables_in tables.now) session p strands.old ≡ 0 }
+    ensures value { result ≡ session_after (tables_in tables.now) session p strands.old }
+    ensures strands_after { strands.new ≡ strands_after (tables_in tables.now) session p strands.old }
 {
-    let shape = rows.shape;
-    let turned = deliver::deliver(session, rows, sent, received, p.0 - 1, strands);
-    post(turned, shape.n, strands)
+    let turned = deliver::deliver(session, tables, p.0 - 1, strands);
+    post(turned, tables.rows.shape.n, strands)
 }

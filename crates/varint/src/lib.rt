@@ -7,12 +7,6 @@ ghost use Rattle.varint.specs.Ending.{Ending, ended_by};
 ghost use Rattle.varint.specs.Number.{encode, read_number};
 ghost use Rattle.varint.specs.Write.{place_after, number_put};
 
-fn wide(b: u8) -> u64
-    ensures { (result ≡ b) × (result < 256) }
-{
-    b as u64
-}
-
 // The number at a place and the place after it, in at most `groups` groups and at most `limit`: none where it is not whole, not
 // shortest, of too many groups or too large. Nine groups are the most that a `u64` holds.
 pub fn read_number(s: &[u8], at: usize, groups: u32, limit: u64) -> Option<(u64, usize)>
@@ -21,13 +15,12 @@ pub fn read_number(s: &[u8], at: usize, groups: u32, limit: u64) -> Option<(u64,
 {
     let mut value: u64 = 0;
     let mut shift: u32 = 0;
-    let mut k: u32 = 0;
     let mut i = at;
-    while k < groups {
+    for k in 0..groups {
         if s.len() <= i {
             return None;
         }
-        let b = wide(s[i]);
+        let b = u64::from(s[i]);
         if b < 128 {
             if b == 0 && 0 < k {
                 return None;
@@ -40,7 +33,6 @@ pub fn read_number(s: &[u8], at: usize, groups: u32, limit: u64) -> Option<(u64,
         }
         value = value | ((b & 127) << shift);
         shift += 7;
-        k += 1;
         i += 1;
     }
     None
@@ -67,27 +59,27 @@ fn read_five(s: &[u8], at: usize, limit: u64) -> Option<(u64, usize)>
     requires { at + 5 ≤ length s.now }
     ensures { result ≡ read_number 5 limit s.now at }
 {
-    let b0 = wide(s[at]);
+    let b0 = u64::from(s[at]);
     if b0 < 128 {
         return ended(0, limit, 0, b0, at + 1);
     }
     let v0 = b0 & 127;
-    let b1 = wide(s[at + 1]);
+    let b1 = u64::from(s[at + 1]);
     if b1 < 128 {
         return ended(7, limit, v0, b1, at + 2);
     }
     let v1 = v0 | ((b1 & 127) << 7);
-    let b2 = wide(s[at + 2]);
+    let b2 = u64::from(s[at + 2]);
     if b2 < 128 {
         return ended(14, limit, v1, b2, at + 3);
     }
     let v2 = v1 | ((b2 & 127) << 14);
-    let b3 = wide(s[at + 3]);
+    let b3 = u64::from(s[at + 3]);
     if b3 < 128 {
         return ended(21, limit, v2, b3, at + 4);
     }
     let v3 = v2 | ((b3 & 127) << 21);
-    let b4 = wide(s[at + 4]);
+    let b4 = u64::from(s[at + 4]);
     if b4 < 128 {
         return ended(28, limit, v3, b4, at + 5);
     }
@@ -110,6 +102,7 @@ pub fn size_of(v: u64) -> usize
 {
     let mut rest = v;
     let mut n: usize = 1;
+    // Not a `for`: how many turns there are is what is asked.
     while 128 <= rest {
         rest = rest >> 7;
         n += 1;
@@ -125,6 +118,7 @@ pub fn put_number(v: u64, out: &mut [u8], at: usize) -> usize
 {
     let mut left = v;
     let mut i = at;
+    // Not a `for`: it would have to know the number's size first.
     while 128 <= left {
         out[i] = ((left & 127) | 128) as u8;
         left = left >> 7;

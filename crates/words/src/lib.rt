@@ -31,7 +31,7 @@ pub fn of_number(v: usize) -> u64
     v as u64
 }
 
-// A word as a counter; of a longer one the low bits.
+// A word as a counter; of a longer one the low bits. No `From`: neither type is of this crate, and a bound's remainder says more.
 pub fn counter_in(w: u64) -> Counter
     ensures { result ≡ counter_in w }
 {
@@ -72,30 +72,18 @@ pub fn numbers_at(words: &[u64], at: usize) -> [usize; 16]
 {
     let mut numbers = [0usize; 16];
     for i in 0..book::MOST_PROCESSES {
-        numbers[i] = number(words[at + i]);
+        numbers[i] = words[at + i] as usize;
     }
     numbers
 }
 
-// Sixteen counters from a place on.
-pub fn row_at(words: &[u64], at: usize) -> [Count; 16]
-    requires { at + most_processes ≤ length words.now }
-    ensures { result ≡ counts_at most_processes words.now at }
+// N counters from a place on: a row or a column, or a matrix.
+pub fn counts_at<const N: usize>(words: &[u64], at: usize) -> [Count; N]
+    requires { at + N ≤ length words.now }
+    ensures { result ≡ counts_at N words.now at }
 {
-    let mut counts = [Count(0); 16];
-    for i in 0..book::MOST_PROCESSES {
-        counts[i] = Count(counter_in(words[at + i]));
-    }
-    counts
-}
-
-// The counters of a matrix, from a place on.
-pub fn matrix_at(words: &[u64], at: usize) -> [Count; 256]
-    requires { at + matrix_length ≤ length words.now }
-    ensures { result ≡ counts_at matrix_length words.now at }
-{
-    let mut counts = [Count(0); 256];
-    for i in 0..matrix::ENTRIES {
+    let mut counts = [Count(0); N];
+    for i in 0..N {
         counts[i] = Count(counter_in(words[at + i]));
     }
     counts
@@ -106,7 +94,7 @@ pub fn shape_in(words: &[u64]) -> Shape
     requires { length words.now ≡ shape_length }
     ensures { result ≡ shape_in words.now }
 {
-    let n = number(words[0]);
+    let n = words[0] as usize;
     let counts = numbers_at(words, layout::SHAPE_COUNTS_AT);
     Shape { n, counts }
 }
@@ -118,7 +106,7 @@ pub fn set_in(words: &[u64]) -> [Checkpoint; 16]
 {
     let mut set = [Checkpoint(0); 16];
     for i in 0..book::MOST_PROCESSES {
-        set[i] = Checkpoint(number(words[i]));
+        set[i] = Checkpoint(words[i] as usize);
     }
     set
 }
@@ -141,7 +129,7 @@ pub fn put_numbers(numbers: [usize; 16], words: &mut [u64], at: usize)
     ensures { words.new ≡ sets words.old at (number_words numbers) }
 {
     for i in 0..book::MOST_PROCESSES {
-        words[at + i] = of_number(numbers[i]);
+        words[at + i] = numbers[i] as u64;
     }
 }
 
@@ -152,29 +140,18 @@ pub fn put_set(set: [Checkpoint; 16], words: &mut [u64], at: usize)
 {
     for i in 0..book::MOST_PROCESSES {
         let r = set[i];
-        words[at + i] = of_number(r.0);
+        words[at + i] = r.0 as u64;
     }
 }
 
-// Sixteen counters.
-pub fn put_row(row: [Count; 16], words: &mut [u64], at: usize)
-    requires { at + most_processes ≤ length words.old }
-    ensures { words.new ≡ sets words.old at (count_words most_processes row) }
+// N counters, likewise.
+pub fn put_counts<const N: usize>(counts: [Count; N], words: &mut [u64], at: usize)
+    requires { at + N ≤ length words.old }
+    ensures { words.new ≡ sets words.old at (count_words N counts.entry) }
 {
-    for i in 0..book::MOST_PROCESSES {
-        let count = row[i];
-        words[at + i] = book::wide(count.0);
-    }
-}
-
-// The counters of a matrix.
-pub fn put_matrix(entries: [Count; 256], words: &mut [u64], at: usize)
-    requires { at + matrix_length ≤ length words.old }
-    ensures { words.new ≡ sets words.old at (count_words matrix_length entries) }
-{
-    for i in 0..matrix::ENTRIES {
-        let count = entries[i];
-        words[at + i] = book::wide(count.0);
+    for i in 0..N {
+        let count = counts[i];
+        words[at + i] = u64::from(count.0);
     }
 }
 
@@ -184,7 +161,7 @@ pub fn put_shape(shape: Shape, words: &mut [u64])
     ensures { words.new ≡ shape_words shape }
 {
     let counts = shape.counts;
-    words[0] = of_number(shape.n);
+    words[0] = shape.n as u64;
     put_numbers(counts, words, layout::SHAPE_COUNTS_AT);
 }
 
@@ -195,8 +172,8 @@ pub fn put_resend(resend: Resend, words: &mut [u64], at: usize)
 {
     let first = resend.first;
     let last = resend.last;
-    put_matrix(first, words, at);
-    put_matrix(last, words, at + layout::RESEND_LAST_AT);
+    put_counts(first, words, at);
+    put_counts(last, words, at + layout::RESEND_LAST_AT);
 }
 
 // An order, to a slice of its length.

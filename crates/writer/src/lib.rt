@@ -18,7 +18,7 @@ fn nth_counter(table: &[Counter], j: usize, row: usize, k: usize) -> u64
     ensures { result ≡ get_or table.now (row * 16 + partner_column j k) 0 }
 {
     let at = row * book::ROW_WIDTH + book::partner_column(j, k);
-    book::wide(table[at])
+    u64::from(table[at])
 }
 
 // How many bytes the counters of a row of process j take. The bounds on sizes are there for the sums to fit.

@@ -1,5 +1,4 @@
 -- `book::rows_of` meets its contract. The invariant: the first rows so far, and the start carried to the next process.
-use Prim.Native.Nat.{◌-◌}
 use Rattle.book.proofs.Starts.{StartsFound}
 use Rattle.book.proofs.rows_of.Given as goal
 

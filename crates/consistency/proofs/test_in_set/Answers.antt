@@ -2,7 +2,7 @@
 use mathlib.Core.Path.{ap, ◌∙◌}
 use Prim.Native.Nat.{◌-◌}
 use native.Mathlib.Omega.{arith}
-use Rattle.book.specs.Lent.{lent}
+use Rattle.accepted.specs.Holding.{tables_in}
 use Rattle.line_theory.proofs.Accepted.{rows_few}
 use Rattle.line_theory.specs.OfTables.{view_of}
 use Rattle.line_theory.specs.Search.{sent_to}
@@ -14,10 +14,7 @@ use Rattle.consistency.proofs.test_in_set.Goals as goal
 
 pub sent_to-known-requires : goal.sent_to-known-requires
 sent_to-known-requires c =
-    let (rows, there) = c.requires.accepted_rows in record {
-      whole = (sent_whole rows, there);
-      all_named = c.requires.all_named;
-    }
+    record { whole = (sent_whole c.args.tables.now.passed, c.requires.is_process); all_named = c.requires.all_named }
 
 pub offset_bounds-set-i : goal.offset_bounds-set-i
 offset_bounds-set-i c = omega (arith, rows_few)
@@ -27,14 +24,14 @@ bounds-set-i c = omega (arith, rows_few)
 
 pub test_row-requires : goal.test_row-requires
 test_row-requires c =
-    let (rows, there) = c.requires.accepted_rows in record {
-      whole = (received_whole rows, there);
+    record {
+      whole = (received_whole c.args.tables.now.passed, c.requires.is_process);
       le_r = c.requires.all_named (c.args.j.0 - 1) (omega arith);
     }
 
 pub returns : goal.returns
 returns c = let a = c.args in
-    let v = view_of (lent a.rows.shape a.sent.now a.received.now) in
+    let v = view_of (tables_in a.tables.now) in
     let j = a.j.0 - 1 in
     c.test_row.ensures
     ∙ ap named_as (offending_ext v.n (v.R j (chosen a.set j)) (counters c.sent_to-known.result) (sent_to v (chosen a.set) j)

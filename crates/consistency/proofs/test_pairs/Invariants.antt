@@ -1,5 +1,5 @@
 -- `test_pairs` meets its contract. The invariant: nobody offends any checkpoint so far.
-use Rattle.book.specs.Lent.{lent}
+use Rattle.accepted.specs.Holding.{tables_in}
 use Rattle.line_theory.specs.OfTables.{view_of}
 use Rattle.lists.proofs.Before.{Before}
 use Rattle.consistency.specs.Set.{chosen}
@@ -8,5 +8,5 @@ use Rattle.consistency.proofs.test_pairs.Given as goal
 
 abbrev pub invariant-loop-j : goal.invariant-loop-j
 invariant-loop-j l =
-    let v = view_of (lent l.rows.shape l.sent l.received) in
-    Before l.n (NoneOffends v (chosen l.set)) l.j
+    let v = view_of (tables_in l.tables) in
+    Before l.tables.rows.shape.n (NoneOffends v (chosen l.set)) l.j

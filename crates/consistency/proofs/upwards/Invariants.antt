@@ -1,6 +1,6 @@
 -- `upwards` meets its contract. The invariant: the present checkpoint is the newest permitted from itself back.
 use mathlib.Core.Path.{◌≡◌}
-use Prim.Native.Nat.{◌-◌, ◌≤◌}
+use Prim.Native.Nat.{◌-◌}
 use Rattle.book.specs.View.{R}
 use Rattle.line_theory.specs.Search.{newest}
 use Rattle.consistency.specs.Known.{counters}
@@ -8,7 +8,4 @@ use Rattle.consistency.proofs.upwards.Given as goal
 
 abbrev pub invariant-loop-last : goal.invariant-loop-last
 invariant-loop-last l =
-    (l.last ≤ l.count) × (newest l.rows.shape.n (λ s p. R l.rows.shape l.received (l.j.0 - 1) s p) (counters l.known) l.last ≡ l.last)
-
-abbrev pub decreases-loop-last : goal.decreases-loop-last
-decreases-loop-last l = l.count - l.last
+    newest l.rows.shape.n (λ s p. R l.rows.shape l.received (l.j.0 - 1) s p) (counters l.known) l.last ≡ l.last

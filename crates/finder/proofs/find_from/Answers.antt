@@ -9,26 +9,26 @@ use Rattle.finder.proofs.find_from.Goals as goal
 use Rattle.finder.proofs.find_from.Goals.{At-loop-j}
 
 pub rows_at-at-requires : goal.rows_at-at-requires
-rows_at-at-requires c = given_named c.args.set _ c.requires.accepted_rows.0 c.requires.accepted_rows.1 (λ j k. refl)
+rows_at-at-requires c = given_named c.args.set _ c.args.tables.now.passed c.requires.all_named (λ j k. refl)
 
 pub flags_of-flags-requires : goal.flags_of-flags-requires
 flags_of-flags-requires c =
     let at = c.rows_at-at in
-    let (given, named) = c.requires.accepted_rows in
-    rows_given at.result given (given_named c.args.set _ given named at.ensures)
+    let given = c.args.tables.now.passed in
+    rows_given at.result given (given_named c.args.set _ given c.requires.all_named at.ensures)
 
 pub first_flagged-j-requires : goal.first_flagged-j-requires
-first_flagged-j-requires c = (accepted_size c.requires.accepted_rows.0.accepted).1
+first_flagged-j-requires c = (accepted_size c.args.tables.now.passed.accepted).1
 
 pub loop-j-init : goal.loop-j-init
 loop-j-init c =
-    λ start given named same. found_begun start c.rows_at-at.result c.flags_of-flags.result given named same (search rules, search rules)
+    λ start named same. found_begun start c.rows_at-at.result c.flags_of-flags.result c.args.tables.now.passed named same (search rules, search rules)
     c.flags_of-flags.ensures c.first_flagged-j.ensures
 
 -- from the set that is given
-found : (c : At-loop-j) → let a = c.args in
-    FoundSoFar a.rows a.sent.now a.received.now a.set c.loop-j.at c.loop-j.flags c.loop-j.passed c.loop-j.j
-found c = c.loop-j.invariant c.args.set c.requires.accepted_rows.0 c.requires.accepted_rows.1 c.rows_at-at.ensures
+found : (c : At-loop-j) → let t = c.args.tables.now in
+    FoundSoFar t.rows t.sent.now t.received.now c.args.set c.loop-j.at c.loop-j.flags c.loop-j.passed c.loop-j.j
+found c = c.loop-j.invariant c.args.set c.requires.all_named c.rows_at-at.ensures
 
 pub step_back-requires : goal.step_back-requires
 step_back-requires c =
@@ -49,7 +49,7 @@ loop-j-smaller c = omega (arith, found_few (found (goal.at.loop-j-smaller c).At-
 pub loop-j-preserved : goal.loop-j-preserved
 loop-j-preserved c =
     let step = c.step_back in
-    λ start given named same. found_more (c.loop-j.invariant start given named same) c.loop-j-test.true
+    λ start named same. found_more (c.loop-j.invariant start named same) c.loop-j-test.true
     step.new.at step.new.flags step.ensures.stepped_back step.ensures.for_sixteen_2 c.first_flagged-j-in-loop-j.ensures
 
 pub set_at-line-requires : goal.set_at-line-requires

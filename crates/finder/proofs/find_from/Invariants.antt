@@ -3,7 +3,6 @@
 use mathlib.Core.List.{List}
 use Prim.Native.Nat.{◌-◌}
 use Rattle.book.specs.declared.Checkpoint.{Checkpoint}
-use Rattle.book.specs.Accepted.{AcceptedRows}
 use Rattle.consistency.specs.Set.{chosen}
 use Rattle.consistency.specs.Given.{AllNamed}
 use Rattle.finder.specs.Steps.{SameSet, set_at}
@@ -12,8 +11,9 @@ use Rattle.finder.proofs.find_from.Given as goal
 
 abbrev pub invariant-loop-j : goal.invariant-loop-j
 invariant-loop-j l =
-    (start : List Checkpoint) → AcceptedRows l.rows l.sent l.received → AllNamed l.rows.shape start → SameSet l.rows.shape.n (set_at l.rows.shape.counts l.initial.at) (chosen start)
-    → FoundSoFar l.rows l.sent l.received start l.at l.flags l.passed l.j
+    let shape = l.tables.rows.shape in
+    (start : List Checkpoint) → AllNamed shape start → SameSet shape.n (set_at shape.counts l.initial.at) (chosen start)
+    → FoundSoFar l.tables.rows l.tables.sent.now l.tables.received.now start l.at l.flags l.passed l.j
 
 abbrev pub decreases-loop-j : goal.decreases-loop-j
 decreases-loop-j l = 256 - l.passed

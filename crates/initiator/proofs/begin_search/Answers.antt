@@ -2,7 +2,7 @@
 use mathlib.Core.Path.{sym, subst}
 use Prim.Native.Nat.{◌-◌, ◌<◌}
 use native.Mathlib.Omega.{arith}
-use Rattle.book.specs.Lent.{lent}
+use Rattle.accepted.specs.Holding.{tables_in}
 use Rattle.line_theory.proofs.Accepted.{accepted_book, rows_few}
 use Rattle.consistency.proofs.Calls.{sent_whole}
 use Rattle.machine.specs.Own.{own_of}
@@ -20,10 +20,10 @@ bounds-counts-place c = omega (arith, rows_few)
 
 pub sent_row-row-requires : goal.sent_row-row-requires
 sent_row-row-requires c =
-    let given = c.requires in
+    let passed = c.args.tables.now.passed in
     record {
-      whole = (sent_whole given.0, given.1);
-      le_r = ((accepted_book given.0.accepted).some (c.args.me.0 - 1) (omega (arith, given.1)), omega arith);
+      whole = (sent_whole passed, c.requires);
+      le_r = ((accepted_book passed.accepted).some (c.args.me.0 - 1) (omega (arith, c.requires)), omega arith);
     }
 
 pub with_row-first-requires : goal.with_row-first-requires
@@ -42,7 +42,7 @@ returns c =
     let to = c.participants-to in
     let news = c.invitations-news in
     let start = c.without_wait-start in
-    search_is (own_of (lent a.rows.shape a.sent.now a.received.now) (a.me.0 - 1)) a.me a.purpose row.result unknown.result
+    search_is (own_of (tables_in a.tables.now) (a.me.0 - 1)) a.me a.purpose row.result unknown.result
     first.result
     to.result
     news.result

@@ -5,17 +5,11 @@ use Prim.Native.Nat.{ℕ}
 use lib.ListN.{take}
 use Rattle.std.specs.Prelude.{Result}
 use Rattle.book.specs.declared.Question.{Question}
-use Rattle.line_text.specs.declared.Text.{Text}
+use Rattle.line_text.specs.declared.growing.Text.{Text}
 use Rattle.line_text.specs.Parts.{Holds, Says}
 use Rattle.line_text.specs.Put.{put_answer, text_put}
 use Rattle.line_text.specs.Line.{line_text}
 use Rattle.line_text.proofs.line_text.Goals as goal
-
-pub put_text-requires : goal.put_text-requires
-put_text-requires c =
-    let text : Holds c.in-Ok.found (line_text c.args.bytes.now) =
-    subst (λ (r : Result Text Question). Says r (line_text c.args.bytes.now)) c.in-Ok.is c.search_text.ensures in
-    text.inside
 
 pub returns-in-Ok : goal.returns-in-Ok
 returns-in-Ok c =
@@ -27,9 +21,6 @@ returns-in-Ok c =
       answer = put.ensures.answer ∙ ap (λ (t : List ℕ). put_answer t a.out.now) text.first;
       bytes = put.ensures.bytes ∙ ap (λ (t : List ℕ). text_put t a.out.now) text.first;
     }
-
-pub put_text-requires-in-Err : goal.put_text-requires-in-Err
-put_text-requires-in-Err c = c.refused_text.ensures.inside
 
 pub returns-in-Err : goal.returns-in-Err
 returns-in-Err c =

@@ -1,10 +1,9 @@
 -- `line_text::refused_text` meets its contract.
 -- Assumes nothing.
 use Rattle.line_text.specs.Text.{refused_text}
-use Rattle.line_text.proofs.Decimal.{refused_most}
 use Rattle.line_text.proofs.Grows.{holds_grown}
 use Rattle.line_text.proofs.refused_text.Goals as goal
 
 pub returns : goal.returns
 unfolding refused_text
-returns c = rw (← c.number.ensures) (holds_grown c.empty.ensures (refused_most c.number.result) c.labelled.ensures)
+returns c = rw (← c.number.ensures) (holds_grown c.empty-text.ensures c.labelled.ensures)

@@ -1,15 +1,13 @@
-use mathlib.Core.Path.{refl}
-use native.Mathlib.Omega.{arith}
-use Rattle.lists.proofs.Filling.{filled_none, filled_more, filled_all}
+-- `for_each` meets its contract.
+use borrow.Author.Rules.{rules}
+use Prim.Native.Nat.{◌%◌}
+use Rattle.book.proofs.Values.{tally}
+use Rattle.consistency.specs.Known.{counters}
 use Rattle.matrix.specs.Matrix.{as_matrix}
+use Rattle.matrix.proofs.Made.{made_is}
 use Rattle.machine.proofs.for_each.Goals as goal
-
-pub loop-i-init : goal.loop-i-init
-loop-i-init c = filled_none (omega arith)
-
-pub loop-i-preserved : goal.loop-i-preserved
-loop-i-preserved c = filled_more c.loop-i.invariant c.loop-i-test.true refl
 
 pub returns : goal.returns
 unfolding as_matrix
-returns c = filled_all c.loop-i.invariant refl c.loop-i-test.false
+returns c = let a = c.args in
+    made_is _ (λ k. tally (counters a.news (k % 16))) (tally 0) _ (λ i y q k. search rules) _ 256 c.from_fn.ensures.items

@@ -1,15 +1,13 @@
-use mathlib.Core.Path.{refl}
-use native.Mathlib.Omega.{arith}
-use Rattle.lists.proofs.Filling.{filled_none, filled_more, filled_all}
+-- `participants` meets its contract.
+use borrow.Author.Rules.{rules}
+use Prim.Native.Nat.{◌-◌}
+use mathlib.Core.Bool.{false}
+use Rattle.machine.specs.Named.{is_participant}
 use Rattle.machine.specs.Flags.{participants}
+use Rattle.matrix.proofs.Made.{made_is}
 use Rattle.machine.proofs.participants.Goals as goal
-
-pub loop-p-init : goal.loop-p-init
-loop-p-init c = filled_none (omega arith)
-
-pub loop-p-preserved : goal.loop-p-preserved
-loop-p-preserved c = filled_more c.loop-p.invariant c.loop-p-test.true c.is_participant.ensures
 
 pub returns : goal.returns
 unfolding participants
-returns c = filled_all c.loop-p.invariant refl c.loop-p-test.false
+returns c = let a = c.args in
+    made_is _ (λ k. is_participant a.n (a.me.0 - 1) k) false _ (λ i y q k. search rules) _ 16 c.from_fn.ensures.items

@@ -1,19 +1,35 @@
-use mathlib.Core.Path.{ap}
-use mathlib.Core.Bool.{not}
-use Rattle.lists.proofs.Before.{before_none, before_more, all_pass, one_fails}
-use Rattle.machine.specs.Flags.{someone}
+-- `someone` meets its contract.
+use mathlib.Core.Path.{◌≡◌, refl, sym, ap, ◌∙◌}
+use mathlib.Core.Bool.{Bool, true, false, not, ◌&&◌, ◌||◌, beq}
+use mathlib.Core.List.{List}
+use Prim.Native.Nat.{ℕ, zero, suc, ◌+◌, ◌≤◌}
+use native.Mathlib.Omega.{arith}
+use borrow.Author.Rules.{rules}
+use lib.ListN.{length, take}
+use lib.Seq.{take_all}
+use Rattle.std.specs.List.{list_any}
+use Rattle.std.proofs.lemmas.List.Folds.{list_any_more}
+use Rattle.lists.specs.Over.{all_to}
+use Rattle.machine.specs.Flags.{flag, someone}
 use Rattle.machine.proofs.someone.Goals as goal
 
-pub loop-p-init : goal.loop-p-init
-loop-p-init c = before_none
+one_more : (a b : Bool) → (not a || beq b true) ≡ not (a && not b)
+one_more true true = refl
+one_more true false = refl
+one_more false b = refl
 
-pub returns-then-flags-p : goal.returns-then-flags-p
-unfolding someone
-returns-then-flags-p c = ap not (one_fails c.loop-p.invariant c.loop-p-test.true (ap not c.if-flags-p.true))
-
-pub loop-p-preserved : goal.loop-p-preserved
-loop-p-preserved c = before_more c.loop-p.invariant c.loop-p-test.true (ap not c.if-flags-p.false)
+any_flag : (l : List Bool) (k : ℕ) → k ≤ length l → list_any (λ y. beq y true) (take k l) ≡ not (all_to k (λ p. not (flag l p)))
+unfolding all_to
+any_flag l zero h = refl
+any_flag l (suc k) h =
+    let e : suc k ≡ k + 1 = omega arith in
+    ap (λ (n : ℕ). list_any (λ y. beq y true) (take n l)) e ∙ list_any_more (λ y. beq y true) l k false (omega arith)
+    ∙ ap (λ (b : Bool). b || beq (flag l k) true) (any_flag l k (omega arith))
+    ∙ one_more (all_to k (λ p. not (flag l p))) (flag l k)
 
 pub returns : goal.returns
 unfolding someone
-returns c = ap not (all_pass c.loop-p.invariant c.loop-p-test.false)
+returns c =
+    let long : length c.args.flags ≡ 16 = search rules in
+    let whole : take 16 c.args.flags ≡ c.args.flags = take_all 16 c.args.flags (omega (arith, long)) in
+    c.contains.ensures.value ∙ sym (ap (λ (l : List Bool). list_any (λ y. beq y true) l) whole) ∙ any_flag c.args.flags 16 (omega (arith, long))

@@ -14,10 +14,10 @@ pub loop-p-init : goal.loop-p-init
 loop-p-init c = measured_none (pair_parts (counters c.args.news)) pair_most
 
 pub overflow_add-size : goal.overflow_add-size
-overflow_add-size c = omega (arith, pair_few (omega arith) (omega (arith, c.wide.ensures)) c.size_of.ensures c.size_of-then-counter.ensures)
+overflow_add-size c = omega (arith, pair_few (omega arith) (omega (arith, c.from.ensures)) c.size_of.ensures c.size_of-then-counter.ensures)
 
 pub overflow_add-size-then-counter : goal.overflow_add-size-then-counter
-overflow_add-size-then-counter c = omega (arith, pair_few (omega arith) (omega (arith, c.wide.ensures)) c.size_of.ensures c.size_of-then-counter.ensures)
+overflow_add-size-then-counter c = omega (arith, pair_few (omega arith) (omega (arith, c.from.ensures)) c.size_of.ensures c.size_of-then-counter.ensures)
 
 pub loop-p-preserved : goal.loop-p-preserved
 loop-p-preserved c = let news : ℕ → ℕ = counters c.args.news in
@@ -29,8 +29,8 @@ loop-p-preserved c = let news : ℕ → ℕ = counters c.args.news in
       | then-counter w ↦
           subst P (sym w.size-is)
           (measured_more parts pair_most l.invariant there
-          (pair_size news l.p w.if-counter.true w.wide.ensures w.size_of.ensures w.size_of-then-counter.ensures)
-          (pair_few (omega arith) (omega (arith, w.wide.ensures)) w.size_of.ensures w.size_of-then-counter.ensures))
+          (pair_size news l.p w.if-counter.true w.from.ensures w.size_of.ensures w.size_of-then-counter.ensures)
+          (pair_few (omega arith) (omega (arith, w.from.ensures)) w.size_of.ensures w.size_of-then-counter.ensures))
       | else-counter w ↦
           subst P (add-zero l.size ∙ sym w.size-is)
           (measured_more parts pair_most l.invariant there (sym (ap length (no_pair news l.p w.if-counter.false))) (omega arith))

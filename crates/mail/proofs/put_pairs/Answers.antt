@@ -12,7 +12,7 @@ pub put_number-next-requires : goal.put_number-next-requires
 put_number-next-requires c = process_room (counters c.args.news) c.loop-p.p c.if-counter.true c.loop-p.out c.loop-p.next (put_room (pair_parts (counters c.args.news)) _ _ c.requires c.loop-p.invariant c.loop-p-test.true)
 
 pub put_number-next-requires-then-counter : goal.put_number-next-requires-then-counter
-put_number-next-requires-then-counter c = counter_room (counters c.args.news) c.loop-p.p c.if-counter.true c.wide.ensures c.loop-p.out c.loop-p.next
+put_number-next-requires-then-counter c = counter_room (counters c.args.news) c.loop-p.p c.if-counter.true c.from.ensures c.loop-p.out c.loop-p.next
     (put_room (pair_parts (counters c.args.news)) _ _ c.requires c.loop-p.invariant c.loop-p-test.true) (c.put_number-next.ensures.next, c.put_number-next.ensures.bytes)
 
 pub loop-p-preserved : goal.loop-p-preserved
@@ -25,7 +25,7 @@ loop-p-preserved c = let news : ℕ → ℕ = counters c.args.news in
           let second = w.put_number-next-then-counter.ensures in
           put_came w.out-is w.next-is
           (put_more parts _ _ c.loop-p.invariant there
-          (pair_stored news c.loop-p.p w.if-counter.true w.wide.ensures c.loop-p.out c.loop-p.next (first.next, first.bytes) (second.next, second.bytes)))
+          (pair_stored news c.loop-p.p w.if-counter.true w.from.ensures c.loop-p.out c.loop-p.next (first.next, first.bytes) (second.next, second.bytes)))
       | else-counter w ↦
           put_came w.out-is w.next-is
           (put_more parts _ _ c.loop-p.invariant there (no_pair_stored news c.loop-p.p w.if-counter.false c.loop-p.out c.loop-p.next))

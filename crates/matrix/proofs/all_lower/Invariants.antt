@@ -1,7 +1,6 @@
 -- `all_lower` meets its contract. The invariant: every counter so far is lower.
 use mathlib.Core.Path.{◌≡◌}
 use mathlib.Core.Bool.{true}
-use Prim.Native.Nat.{◌-◌}
 use Rattle.consistency.specs.Known.{counters}
 use Rattle.lists.proofs.Before.{Before}
 use Rattle.matrix.proofs.News.{lower}

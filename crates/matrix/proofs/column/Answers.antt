@@ -1,15 +1,13 @@
-use mathlib.Core.Path.{refl}
-use native.Mathlib.Omega.{arith}
+-- `column` meets its contract.
+use borrow.Author.Rules.{rules}
+use Prim.Native.Nat.{◌+◌, ◌-◌, ◌*◌}
+use Rattle.consistency.specs.Known.{counters}
+use Rattle.book.proofs.Values.{tally}
 use Rattle.matrix.specs.Matrix.{as_row}
-use Rattle.lists.proofs.Filling.{filled_none, filled_more, filled_all}
+use Rattle.matrix.proofs.Made.{made_is}
 use Rattle.matrix.proofs.column.Goals as goal
-
-pub loop-j-init : goal.loop-j-init
-loop-j-init c = filled_none (omega arith)
-
-pub loop-j-preserved : goal.loop-j-preserved
-loop-j-preserved c = filled_more c.loop-j.invariant c.loop-j-test.true refl
 
 pub returns : goal.returns
 unfolding as_row
-returns c = filled_all c.loop-j.invariant refl c.loop-j-test.false
+returns c = let a = c.args in
+    made_is _ (λ k. tally (counters a.matrix (k * 16 + (a.p.0 - 1)))) (tally 0) _ (λ i y q k. search rules) _ 16 c.from_fn.ensures.items

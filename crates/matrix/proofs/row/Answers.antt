@@ -1,15 +1,13 @@
-use mathlib.Core.Path.{refl}
-use native.Mathlib.Omega.{arith}
+-- `row` meets its contract.
+use borrow.Author.Rules.{rules}
+use Prim.Native.Nat.{◌+◌, ◌-◌, ◌*◌}
+use Rattle.consistency.specs.Known.{counters}
+use Rattle.book.proofs.Values.{tally}
 use Rattle.matrix.specs.Matrix.{as_row}
-use Rattle.lists.proofs.Filling.{filled_none, filled_more, filled_all}
+use Rattle.matrix.proofs.Made.{made_is}
 use Rattle.matrix.proofs.row.Goals as goal
-
-pub loop-p-init : goal.loop-p-init
-loop-p-init c = filled_none (omega arith)
-
-pub loop-p-preserved : goal.loop-p-preserved
-loop-p-preserved c = filled_more c.loop-p.invariant c.loop-p-test.true refl
 
 pub returns : goal.returns
 unfolding as_row
-returns c = filled_all c.loop-p.invariant refl c.loop-p-test.false
+returns c = let a = c.args in
+    made_is _ (λ k. tally (counters a.matrix ((a.j.0 - 1) * 16 + k))) (tally 0) _ (λ i y q k. search rules) _ 16 c.from_fn.ensures.items

@@ -1,28 +1,29 @@
+-- `with_row` meets its contract.
 use mathlib.Core.Path.{◌≡◌, ap, ◌∙◌}
+use mathlib.Core.List.{List}
 use Prim.Native.Nat.{ℕ, ◌+◌, ◌-◌, ◌*◌, ◌/◌}
 use native.Mathlib.Omega.{arith}
 use borrow.Author.Rules.{rules}
-use Rattle.lists.proofs.Filling.{filled_from, filled_more, filled_to}
+use borrow.Rule.Slice.PartMut.{put_mid}
+use lib.ListN.{length}
+use Rattle.book.specs.declared.Count.{Count}
+use Rattle.book.proofs.Values.{tally}
+use Rattle.lists.proofs.Over.{tab_is}
 use Rattle.matrix.specs.Matrix.{as_matrix, with_row}
-use Rattle.matrix.proofs.RowPut.{in_row, in_others}
+use Rattle.matrix.proofs.RowPut.{row_put, row_put_at, row_put_long}
 use Rattle.matrix.proofs.with_row.Goals as goal
-
-pub loop-p-init : goal.loop-p-init
-loop-p-init c = let a = c.args in
-    let first : ℕ = (a.j.0 - 1) * 16 in
-    let begins : first + 0 ≡ first = omega arith in
-    rw begins (filled_from (omega arith) (omega arith) (λ i h. in_others a.matrix a.entries first i (λ e. absurd (omega arith))))
-
-pub loop-p-preserved : goal.loop-p-preserved
-loop-p-preserved c = let a = c.args in
-    let l = c.loop-p in
-    let first : ℕ = (a.j.0 - 1) * 16 in
-    let next : first + l.p + 1 ≡ first + (l.p + 1) = omega arith in
-    rw next at (filled_more l.invariant (omega arith) (in_row a.matrix a.entries first l.p (omega arith) c.loop-p-test.true))
 
 pub returns : goal.returns
 unfolding as_matrix
 returns c = let a = c.args in
-    let down : (a.j.0 - 1) * 16 / 16 ≡ a.j.0 - 1 = omega arith in
-    filled_to c.loop-p.invariant (search rules) (λ i h m. in_others a.matrix a.entries ((a.j.0 - 1) * 16) i (λ e. absurd (omega arith)))
+    let first : ℕ = (a.j.0 - 1) * 16 in
+    let down : first / 16 ≡ a.j.0 - 1 = omega arith in
+    let wide : first + 16 - first ≡ 16 = omega arith in
+    let long : length a.matrix ≡ 256 = search rules in
+    let row : length a.entries ≡ 16 = search rules in
+    let put : c.copy_from_slice.new.self ≡ a.entries = c.copy_from_slice.ensures.after in
+    ap (λ (k : ℕ). put_mid first k a.matrix c.copy_from_slice.new.self) wide ∙ ap (λ (l : List Count). put_mid first 16 a.matrix l) put
+    ∙ tab_is (tally 0) 256 (row_put a.matrix a.entries first) (put_mid first 16 a.matrix a.entries)
+    (row_put_long a.matrix a.entries first (omega arith) (omega (arith, long)) row ∙ long)
+    (λ i m. row_put_at a.matrix a.entries first (omega arith) (omega (arith, long)) row i)
     ∙ ap (λ (k : ℕ). with_row a.matrix k a.entries) down

@@ -1,5 +1,4 @@
 -- `zero_from` meets its contract. The invariant: the entries so far are zero.
-use Prim.Native.Nat.{◌-◌}
 use Rattle.matrix.proofs.Zeros.{Zeros}
 use Rattle.matrix.proofs.zero_from.Given as goal
 

@@ -1,78 +1,74 @@
 -- `move_line` meets its contract: a refusal leaves all as it was, and else both tables get the rows that the plan keeps.
-use mathlib.Core.Path.{◌≡◌, subst}
-use borrow.Author.Rules.{rules}
-use lib.ListN.{length}
-use Rattle.book.specs.declared.Shape.{Shape}
+use mathlib.Core.Path.{◌≡◌, ap, subst, ◌∙◌}
+use Rattle.accepted.specs.Holding.{tables_in}
+use Rattle.accepted.proofs.Accepting.{refused_with, not_with, passes_with, tables_are}
 use Rattle.line_theory.specs.OfTables.{view_of}
-use Rattle.line_theory.proofs.Accepted.{accepted_few, accepted_lengths}
-use Rattle.book.specs.Lent.{lent}
+use Rattle.line_theory.proofs.Accepted.{accepted_lengths}
+use Rattle.book.specs.declared.Shape.{Shape}
+use Rattle.book.specs.Lent.{Tables, lent}
+use Rattle.book.specs.View.{first_rows}
 use Rattle.book.specs.Accepted.{AreAccepted}
-use Rattle.book.proofs.Starts.{rows_accepted}
-use Rattle.book.proofs.Refusals.{refused_by, is_refused, is_accepted, hands_on, accepts}
+use Rattle.book.proofs.Refusals.{hands_on, accepts}
 use Rattle.restart.specs.Plan.{planned}
 use Rattle.restart.specs.Values.{plan_of}
-use Rattle.restart.specs.Calls.{move_question}
-use Rattle.restart.proofs.Orders.{accepted_of}
 use Rattle.moves.specs.Parts.{line_moved}
 use Rattle.moves.proofs.Joined.{movable}
 use Rattle.moves.proofs.Calls.{stays, moved}
 use Rattle.moves.proofs.move_line.Goals as goal
-use Rattle.moves.proofs.move_line.Goals.{In_ok-question, After-plan_move-plan}
+use Rattle.moves.proofs.move_line.Goals.{In_ok-tables, After-plan_move-plan}
 
-pub returns-in_err-question : goal.returns-in_err-question
-returns-in_err-question c = let a = c.args in
-    let h = c.question.ensures in
-    let was = c.in_err-question.was in
-    let tables = stays (lent a.shape a.sent.now a.received.now) a.purpose (is_refused _ _ h was) in
+pub returns-in_err-tables : goal.returns-in_err-tables
+returns-in_err-tables c = let a = c.args in
+    let t = lent a.shape a.sent.now a.received.now in
+    let h = c.accept.ensures in
+    let was = c.in_err-tables.was in
+    let tables = stays t a.purpose (not_with _ t h was) in
     record {
-      answer = hands_on _ c.in_err-question.field-0.0 (line_moved (lent a.shape a.sent.now a.received.now) a.purpose)
-          c.from_residual.ensures.1 (λ f same. same) (refused_by _ _ h was);
+      answer = hands_on _ c.in_err-tables.field-0.0 (line_moved t a.purpose)
+          c.from_residual.ensures.1 (λ f same. same) (refused_with _ t h was);
       sent_after = tables.0;
       received_after = tables.1;
     }
 
--- no question has failed
-asked-none : (c : In_ok-question)
-    → let a = c.args in move_question (lent a.shape a.sent.now a.received.now) a.purpose ≡ 0
-asked-none c = is_accepted _ _ c.question.ensures c.in_ok-question.was
+-- the accepted tables are those that were lent
+same_tables : (c : In_ok-tables) → let a = c.args in tables_in c.in_ok-tables.tables ≡ lent a.shape a.sent.now a.received.now
+same_tables c = let a = c.args in tables_are _ (lent a.shape a.sent.now a.received.now) c.accept.ensures c.in_ok-tables.was
 
-accepted : (c : In_ok-question) → let a = c.args in AreAccepted (lent a.shape a.sent.now a.received.now)
-accepted c =
-    let a = c.args in
-    let long : length a.shape.counts ≡ 16 = search rules in
-    accepted_of (lent a.shape a.sent.now a.received.now) a.purpose (asked-none c) long
+accepted : (c : In_ok-tables) → let a = c.args in AreAccepted (lent a.shape a.sent.now a.received.now)
+accepted c = subst AreAccepted (same_tables c) c.in_ok-tables.tables.passed.accepted
 
-pub rows_of-rows-requires : goal.rows_of-rows-requires
-rows_of-rows-requires c = accepted_few (accepted (goal.at.rows_of-rows-requires c).In_ok-question)
-
-pub plan_move-plan-requires : goal.plan_move-plan-requires
-plan_move-plan-requires c = rows_accepted (accepted (goal.at.plan_move-plan-requires c).In_ok-question) c.rows_of-rows.ensures
-
--- the plan, of the shape that the rows are found for
+-- the plan, of the tables that were lent
 made : (c : After-plan_move-plan)
     → let a = c.args in
     c.plan_move-plan.result ≡ plan_of a.shape.n (planned (view_of (lent a.shape a.sent.now a.received.now)) a.purpose)
 made c =
     let a = c.args in
-    subst (λ (s : Shape). c.plan_move-plan.result ≡ plan_of s.n (planned (view_of (lent s a.sent.now a.received.now)) a.purpose))
-    c.rows_of-rows.ensures.0 c.plan_move-plan.ensures
+    subst (λ (t : Tables). c.plan_move-plan.result ≡ plan_of t.shape.n (planned (view_of t) a.purpose))
+    (tables_are _ (lent a.shape a.sent.now a.received.now) c.accept.ensures c.in_ok-tables.was) c.plan_move-plan.ensures
+
+-- and their rows are those of the shape that was lent
+same_shape : (c : In_ok-tables) → c.in_ok-tables.tables.rows.shape ≡ c.args.shape
+same_shape c = ap (λ (t : Tables). t.shape) (same_tables c)
+
+same_starts : (c : In_ok-tables) → c.in_ok-tables.tables.rows.first ≡ first_rows c.args.shape.counts
+same_starts c = c.in_ok-tables.tables.passed.starts ∙ ap (λ (s : Shape). first_rows s.counts) (same_shape c)
 
 pub apply-moved-requires : goal.apply-moved-requires
 apply-moved-requires c =
-    let good = accepted (goal.at.apply-moved-requires c).In_ok-question in
-    let rows = c.rows_of-rows in
-    record {
-      movable = movable good _ _ rows.ensures.0 rows.ensures.1 _ (made (goal.at.apply-moved-requires c).After-plan_move-plan);
+    let at = (goal.at.apply-moved-requires c).In_ok-tables in
+    let good = accepted at in record {
+      movable = movable good c.args.purpose _ (same_shape at) (same_starts at) _ (made (goal.at.apply-moved-requires c).After-plan_move-plan);
       sent_len = accepted_lengths good;
     }
 
 pub returns : goal.returns
 returns c = let applied = c.apply-moved in
-    let rows = c.rows_of-rows in
     let a = c.args in
-    let none = asked-none (goal.at.returns c).In_ok-question in
+    let t = lent a.shape a.sent.now a.received.now in
+    let at = (goal.at.returns c).In_ok-tables in
+    let none = passes_with _ t c.accept.ensures c.in_ok-tables.was in
     let all
-    = moved (lent a.shape a.sent.now a.received.now) a.purpose (accepted (goal.at.returns c).In_ok-question) none rows.result rows.ensures.0
-    rows.ensures.1 c.plan_move-plan.result (made (goal.at.returns c).After-plan_move-plan) applied.result applied.ensures.n_value _ _
+    = moved t a.purpose (accepted at) none c.in_ok-tables.tables.rows (same_shape at) (same_starts at)
+    c.plan_move-plan.result (made (goal.at.returns c).After-plan_move-plan) applied.result applied.ensures.n_value _ _
     applied.ensures.sent_after applied.ensures.received_after in
     record { answer = accepts none all.0; sent_after = all.1.0; received_after = all.1.1 }

@@ -12,7 +12,7 @@ pub loop-p-preserved : goal.loop-p-preserved
 loop-p-preserved c = let l = c.loop-p in
     let a = c.args in
     let old = stored_after l.invariant (a.from * 16 + l.p) (omega arith) in
-    stored_more l.invariant c.loop-p-test.true _ (c.less.ensures ∙ ap (λ (v : ℕ). v - counters a.off l.p) old)
+    stored_more l.invariant c.loop-p-test.true _ (c.saturating_sub.ensures ∙ ap (λ (v : ℕ). v - counters a.off l.p) old)
 
 pub shape_of-table : goal.shape_of-table
 shape_of-table c = c.loop-p.invariant.same

@@ -6,29 +6,29 @@ use Rattle.plans.proofs.Plans.{resend_is, order_is, plan_is}
 use Rattle.plans.proofs.plan_move.Goals as goal
 
 pub kept_from-kept-requires : goal.kept_from-kept-requires
-kept_from-kept-requires c = line_among c.requires.accepted c.args.purpose c.line_checkpoints-line.result c.line_checkpoints-line.ensures
+kept_from-kept-requires c = line_among c.args.tables.now.passed.accepted c.args.purpose c.line_checkpoints-line.result c.line_checkpoints-line.ensures
 
 pub line_rows-off_received-requires : goal.line_rows-off_received-requires
 line_rows-off_received-requires c = let found = c.line_checkpoints-line in
-    (received_whole c.requires, (line_among c.requires.accepted c.args.purpose found.result found.ensures).1)
+    (received_whole c.args.tables.now.passed, (line_among c.args.tables.now.passed.accepted c.args.purpose found.result found.ensures).1)
 
 pub by_sender-off_sent-requires : goal.by_sender-off_sent-requires
-by_sender-off_sent-requires c = few_processes c.requires.accepted
+by_sender-off_sent-requires c = few_processes c.args.tables.now.passed.accepted
 
 pub line_rows-sent_rows-requires : goal.line_rows-sent_rows-requires
 line_rows-sent_rows-requires c = let found = c.line_checkpoints-line in
-    (sent_whole c.requires, (line_among c.requires.accepted c.args.purpose found.result found.ensures).1)
+    (sent_whole c.args.tables.now.passed, (line_among c.args.tables.now.passed.accepted c.args.purpose found.result found.ensures).1)
 
 pub resend_from-resend-requires : goal.resend_from-resend-requires
-resend_from-resend-requires c = few_processes c.requires.accepted
+resend_from-resend-requires c = few_processes c.args.tables.now.passed.accepted
 
 pub order_to-order-requires : goal.order_to-order-requires
 order_to-order-requires c = let found = c.line_checkpoints-line in
-    line_among c.requires.accepted c.args.purpose found.result found.ensures
+    line_among c.args.tables.now.passed.accepted c.args.purpose found.result found.ensures
 
 pub returns : goal.returns
 returns c = let found = c.line_checkpoints-line in
-    let accepted = c.requires.accepted in
+    let accepted = c.args.tables.now.passed.accepted in
     let purpose = c.args.purpose in
     let received = c.line_rows-off_received.ensures in
     let across = c.by_sender-off_sent.ensures in

@@ -47,8 +47,8 @@ overflow_sub-place-in-loop-k c = (named _ _ _ _ _ _ _ c.requires refl (is_accept
 pub overflow_add-place : goal.overflow_add-place
 overflow_add-place c = let p = named _ _ _ _ _ _ _ c.requires refl (is_accepted _ _ c.entry_question.ensures c.in_ok-entry_question.was) in omega arith
 
-pub counter-requires : goal.counter-requires
-counter-requires c = c.in-Some.ensures.1
+pub overflow_cast-first : goal.overflow_cast-first
+overflow_cast-first c = omega (arith, c.in-Some.ensures.1)
 
 pub offset_bounds-first-place : goal.offset_bounds-first-place
 offset_bounds-first-place c = let p = named _ _ _ _ _ _ _ c.requires refl (is_accepted _ _ c.entry_question.ensures c.in_ok-entry_question.was) in omega arith
@@ -56,8 +56,8 @@ offset_bounds-first-place c = let p = named _ _ _ _ _ _ _ c.requires refl (is_ac
 pub bounds-first-place : goal.bounds-first-place
 bounds-first-place c = let p = named _ _ _ _ _ _ _ c.requires refl (is_accepted _ _ c.entry_question.ensures c.in_ok-entry_question.was) in omega arith
 
-pub counter-requires-in-loop-k : goal.counter-requires-in-loop-k
-counter-requires-in-loop-k c = c.in-Some.ensures.2
+pub overflow_cast-last : goal.overflow_cast-last
+overflow_cast-last c = omega (arith, c.in-Some.ensures.2)
 
 pub offset_bounds-last-place : goal.offset_bounds-last-place
 offset_bounds-last-place c = let p = named _ _ _ _ _ _ _ c.requires refl (is_accepted _ _ c.entry_question.ensures c.in_ok-entry_question.was) in omega arith
@@ -67,7 +67,7 @@ bounds-last-place c = let p = named _ _ _ _ _ _ _ c.requires refl (is_accepted _
 
 pub loop-k-preserved : goal.loop-k-preserved
 loop-k-preserved c = sofar_more _ _ _ _ _ _ _ _ _ _ c.loop-k.invariant c.loop-k-test.true _ _ c.in-Some.ensures _
-    refl (is_accepted _ _ c.entry_question.ensures c.in_ok-entry_question.was) _ _ c.counter.ensures c.counter-in-loop-k.ensures
+    refl (is_accepted _ _ c.entry_question.ensures c.in_ok-entry_question.was) _ _ refl refl
 
 pub returns-then-next-s : goal.returns-then-next-s
 returns-then-next-s c =

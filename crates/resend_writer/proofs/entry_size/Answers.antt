@@ -13,15 +13,15 @@ pub overflow_add-result-2 : goal.overflow_add-result-2
 overflow_add-result-2 c =
     let sender = process_small (omega (arith, c.requires)) c.size_of-sender.ensures in
     let receiver = process_small (omega arith) c.size_of-receiver.ensures in
-    let first = counter_small (omega arith) c.wide.ensures c.size_of.ensures in
+    let first = counter_small (omega arith) c.from.ensures c.size_of.ensures in
     omega (arith, sender, receiver, first)
 
 pub overflow_add-result-3 : goal.overflow_add-result-3
 overflow_add-result-3 c =
     let sender = process_small (omega (arith, c.requires)) c.size_of-sender.ensures in
     let receiver = process_small (omega arith) c.size_of-receiver.ensures in
-    let first = counter_small (omega arith) c.wide.ensures c.size_of.ensures in
-    let last = counter_small (omega arith) c.wide-2.ensures c.size_of-2.ensures in
+    let first = counter_small (omega arith) c.from.ensures c.size_of.ensures in
+    let last = counter_small (omega arith) c.from-2.ensures c.size_of-2.ensures in
     omega (arith, sender, receiver, first, last)
 
 pub returns : goal.returns
@@ -29,10 +29,10 @@ returns c =
     let a = c.args in
     let sender = process_small (omega (arith, c.requires)) c.size_of-sender.ensures in
     let receiver = process_small (omega arith) c.size_of-receiver.ensures in
-    let first = counter_small (omega arith) c.wide.ensures c.size_of.ensures in
-    let last = counter_small (omega arith) c.wide-2.ensures c.size_of-2.ensures in
+    let first = counter_small (omega arith) c.from.ensures c.size_of.ensures in
+    let last = counter_small (omega arith) c.from-2.ensures c.size_of-2.ensures in
     record {
-      value = entry_size a.i a.first.0 a.last.0 c.wide.ensures c.wide-2.ensures
+      value = entry_size a.i a.first.0 a.last.0 c.from.ensures c.from-2.ensures
           c.size_of-sender.ensures c.size_of-receiver.ensures c.size_of.ensures c.size_of-2.ensures;
       upper_bound = omega (arith, sender, receiver, first, last);
     }

@@ -2,7 +2,7 @@
 use mathlib.Core.Path.{◌≡◌}
 use native.Mathlib.Omega.{arith}
 use lib.ListN.{length, get_or}
-use Rattle.book.specs.Lent.{lent}
+use Rattle.accepted.specs.Holding.{tables_in}
 use Rattle.participant.specs.Calls.{no_participant}
 use Rattle.session.specs.Workers.{participant_at}
 use Rattle.lists.proofs.Over.{at_place}
@@ -16,8 +16,8 @@ step-next-requires c = let long : length c.args.session.participants ≡ 16 = se
     at_place beyond no_participant a.session.participants a.k (omega (arith, long, c.requires.k_bound.0)) in
     let a = c.args in
     let pre = c.requires in
-    let names = names_down a.rows a.k a.session.initiator.0 _ (participant_at a.session a.k) (taken) pre.k_value pre.k_value_2 pre.accepted_rows.1 pre.le_initiator in
-    record { accepted_rows = (pre.accepted_rows.0, names.0); le_initiator = names.1 }
+    let names = names_down a.tables.now.rows a.k a.session.initiator.0 _ (participant_at a.session a.k) (taken) pre.k_value pre.k_value_2 pre.is_process pre.le_initiator in
+    record { is_process = names.0; le_initiator = names.1 }
 
 pub offset_bounds-participants-k-2 : goal.offset_bounds-participants-k-2
 offset_bounds-participants-k-2 c = omega (arith, c.requires.k_bound.0)
@@ -41,7 +41,7 @@ returns c = λ s is. let long : length c.args.session.participants ≡ 16 = sear
     at_place beyond no_participant a.session.participants a.k (omega (arith, long, c.requires.k_bound.0)) in
     let a = c.args in
     let next = c.step-next in
-    down_is (lent a.rows.shape a.sent.now a.received.now) a.session a.k s _ a.message next.result
+    down_is (tables_in a.tables.now) a.session a.k s _ a.message next.result
     c.delivered_on.result
     c.on_strand.result
     (taken)

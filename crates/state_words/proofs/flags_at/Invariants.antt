@@ -1,6 +1,6 @@
 -- `flags_at` meets its contract. The invariant: the flags so far are the words.
 use mathlib.Core.Bool.{false}
-use Prim.Native.Nat.{◌+◌, ◌-◌}
+use Prim.Native.Nat.{◌+◌}
 use Rattle.book.specs.Bounds.{most_processes}
 use Rattle.words.specs.Words.{word}
 use Rattle.words.specs.Initiator.{flag_in}

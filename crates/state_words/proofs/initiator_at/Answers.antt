@@ -4,4 +4,4 @@ use Rattle.state_words.proofs.initiator_at.Goals as goal
 
 pub returns : goal.returns
 unfolding initiator_from
-returns c = rw (c.tally_in.ensures, c.number-2.ensures, c.number.ensures, c.matrix_at-copy.ensures, c.matrix_at-matrix.ensures, c.flags_at-awaited.ensures)
+returns c = rw (c.tally_in.ensures, c.counts_at-copy.ensures, c.counts_at-matrix.ensures, c.flags_at-awaited.ensures)

@@ -11,4 +11,4 @@ returns-then-not-initiator_decodes c = let decodes = c.initiator_decodes in
 pub returns : goal.returns
 unfolding initiator_in
 returns c = let decodes = c.initiator_decodes in
-    rw (sym decodes.ensures ∙ c.if-not-initiator_decodes.false, sym c.number.ensures) c.initiator_at-2.ensures
+    rw (sym decodes.ensures ∙ c.if-not-initiator_decodes.false) c.initiator_at-2.ensures

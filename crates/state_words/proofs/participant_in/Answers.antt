@@ -11,4 +11,4 @@ returns-then-not-participant_decodes c = let decodes = c.participant_decodes in
 pub returns : goal.returns
 unfolding participant_in
 returns c = let decodes = c.participant_decodes in
-    rw (sym decodes.ensures ∙ c.if-not-participant_decodes.false, sym c.number.ensures) c.participant_at-2.ensures
+    rw (sym decodes.ensures ∙ c.if-not-participant_decodes.false) c.participant_at-2.ensures

@@ -1,11 +1,12 @@
 use Rattle.words.proofs.Storing.{stored_none, stored_more, stored_all}
+use Rattle.state_words.proofs.Flags.{flag_byte}
 use Rattle.state_words.proofs.put_flags.Goals as goal
 
 pub loop-i-init : goal.loop-i-init
 loop-i-init c = stored_none
 
 pub loop-i-preserved : goal.loop-i-preserved
-loop-i-preserved c = stored_more c.loop-i.invariant c.loop-i-test.true _ c.flag_word.ensures
+loop-i-preserved c = stored_more c.loop-i.invariant c.loop-i-test.true _ (flag_byte _)
 
 pub shape_of-words : goal.shape_of-words
 shape_of-words c = c.loop-i.invariant.same

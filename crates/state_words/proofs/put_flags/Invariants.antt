@@ -1,5 +1,4 @@
 -- `put_flags` meets its contract. The invariant: the flags so far are stored.
-use Prim.Native.Nat.{◌-◌}
 use Rattle.book.specs.Bounds.{most_processes}
 use Rattle.machine.specs.Flags.{flag}
 use Rattle.words.specs.Initiator.{flag_word}

@@ -15,9 +15,8 @@ pub returns : goal.returns
 unfolding participant_words
 returns c = let a = c.args in
     let first : c.put_head.new.words ≡ sets a.words.now a.at (participant_head a.state)
-    = rw (c.of_number.ensures, c.of_number-2.ensures, c.of_number-3.ensures, c.stage_word.ensures, c.of_number-4.ensures) at
-    c.put_head.ensures in
+    = rw c.stage_word.ensures at c.put_head.ensures in
     let second = count_words most_processes a.state.row in
     let third = count_words most_processes a.state.column in
     sets_then (participant_head a.state) (second ++ third) a.words.now a.at first refl
-    (sets_then second third c.put_head.new.words (a.at + row_at) c.put_row.ensures (simp length_tab (omega arith)) c.put_row-2.ensures)
+    (sets_then second third c.put_head.new.words (a.at + row_at) c.put_counts.ensures (simp length_tab (omega arith)) c.put_counts-2.ensures)

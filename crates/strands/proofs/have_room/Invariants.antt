@@ -1,7 +1,6 @@
 -- `have_room` meets its contract. The invariant: the messages so far have room.
 use mathlib.Core.Path.{◌≡◌}
 use mathlib.Core.Bool.{true}
-use Prim.Native.Nat.{◌-◌}
 use lib.ListN.{length}
 use Rattle.lists.proofs.Before.{Before}
 use Rattle.strands.proofs.Slots.{room_for}

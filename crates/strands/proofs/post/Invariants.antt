@@ -1,5 +1,4 @@
 -- `post` meets its contract. The invariant: the messages so far are put, and the lengths noted.
-use Prim.Native.Nat.{◌-◌}
 use Rattle.strands.proofs.Posting.{Posted}
 use Rattle.strands.proofs.post.Given as goal
 

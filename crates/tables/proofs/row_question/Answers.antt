@@ -37,9 +37,9 @@ entry_before-before-requires c = (omega (arith, within (goal.at.entry_before-bef
 found : (c : After-counter_question)
     → let a = c.args in
     let at = a.start + partner_column a.j c.loop-k.k in
-    counter_question mark a.zeros c.entry_before-before.result c.wide-v.result
+    counter_question mark a.zeros c.entry_before-before.result c.from-v.result
     ≡ counter_question mark a.zeros (entry_before a.oldest at a.table.now) (get_or a.table.now at 0)
-found c = rw (← c.partner_column.ensures, ← c.entry_before-before.ensures, ← c.wide-v.ensures) refl
+found c = rw (← c.partner_column.ensures, ← c.entry_before-before.ensures, ← c.from-v.ensures) refl
 
 pub returns-in_err-counter_question : goal.returns-in_err-counter_question
 returns-in_err-counter_question c =

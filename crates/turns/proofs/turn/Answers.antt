@@ -1,168 +1,109 @@
 -- `turn` meets its contract: at each return the tests that led there say which question fails first.
-use borrow.Author.Rules.{rules}
-use mathlib.Core.Path.{◌≡◌, sym, ap, subst, ◌∙◌}
+use mathlib.Core.Path.{◌≡◌, ap, subst, ◌∙◌}
 use mathlib.Core.Bool.{true}
 use Prim.Native.Nat.{◌-◌, ◌≤◌, ◌<◌}
 use native.Mathlib.Omega.{arith}
-use lib.ListN.{length}
-use Rattle.book.specs.declared.Shape.{Shape}
-use Rattle.book.specs.Lent.{lent}
-use Rattle.book.specs.Accepted.{AreAccepted, AcceptedRows}
+use Rattle.accepted.specs.Holding.{tables_in}
+use Rattle.accepted.proofs.Accepting.{refused_with, tables_are}
 use Rattle.book.specs.declared.Question.TheVariants.{Waiting}
+use Rattle.book.specs.InTurn.{answer_with}
+use Rattle.book.specs.Lent.{Tables, lent}
+use Rattle.book.specs.Numbers.{number}
 use Rattle.book.proofs.Refusals.{refused_by, is_accepted, hands_on, refuses}
-use Rattle.book.proofs.Starts.{rows_accepted}
-use Rattle.line_theory.proofs.Accepted.{accepted_size, accepted_few}
-use Rattle.machine.specs.Named.{participant_named, is_participant}
-use Rattle.session.specs.Workers.{initiator_of}
-use Rattle.session.specs.Fits.{session_fits}
-use Rattle.session.specs.Calls.{turned}
-use Rattle.turns.proofs.Turning.{participant_there, is_participant_lem, of_session, next, turn_tables, turn_session, turn_nothing, turn_posted, turn_kept, turn_initiator, passed_names, passed_fits}
+use Rattle.line_theory.proofs.Accepted.{accepted_size}
+use Rattle.machine.specs.Named.{participant_named}
+use Rattle.session.specs.Calls.{turn_question, session_after, strands_after}
+use Rattle.turns.proofs.Turning.{participant_there, is_participant_lem, of_session, turn_tables, turn_session, turn_nothing, turn_posted, turn_kept, turn_initiator, passed_names, passed_fits}
 use Rattle.turns.proofs.turn.Goals as goal
+use Rattle.turns.proofs.turn.Goals.{In_ok-session_question}
 
-pub returns-in_err-check : goal.returns-in_err-check
-returns-in_err-check c = let a = c.args in
-    let e = c.in_err-check.field-0.0 in
-    let fails = turn_tables (lent a.shape a.sent.now a.received.now) a.session a.p a.strands.now e (refused_by _ _ c.check.ensures c.in_err-check.was) in
-    record { answer = hands_on _ e _ c.from_residual.ensures.1 (λ f same. same) fails; strands_after = turn_kept (lent a.shape a.sent.now a.received.now) a.session a.p a.strands.now e fails }
-
-pub rows_of-rows-requires : goal.rows_of-rows-requires
-rows_of-rows-requires c = let counts_long : length c.args.shape.counts ≡ 16 = search rules in
-    let accepted : let a = c.args in AreAccepted (lent a.shape a.sent.now a.received.now) = record {
-      sixteen = counts_long;
-      passed = is_accepted _ _ c.check.ensures c.in_ok-check.was;
-    } in
-    accepted_few (accepted)
-
-pub session_question-requires : goal.session_question-requires
-session_question-requires c = let counts_long : length c.args.shape.counts ≡ 16 = search rules in
-    let accepted : let a = c.args in AreAccepted (lent a.shape a.sent.now a.received.now) = record {
-      sixteen = counts_long;
-      passed = is_accepted _ _ c.check.ensures c.in_ok-check.was;
-    } in
-    let given : let a = c.args in AcceptedRows c.rows_of-rows.result a.sent.now a.received.now = rows_accepted (accepted) c.rows_of-rows.ensures in
-    given
+pub returns-in_err-tables : goal.returns-in_err-tables
+returns-in_err-tables c = let a = c.args in
+    let t = lent a.shape a.sent.now a.received.now in
+    let e = c.in_err-tables.field-0.0 in
+    let fails = turn_tables t a.session a.p a.strands.now e (refused_with _ t c.accept.ensures c.in_err-tables.was) in
+    record { answer = hands_on _ e _ c.from_residual.ensures.1 (λ f same. same) fails; strands_after = turn_kept t a.session a.p a.strands.now e fails }
 
 pub returns-in_err-session_question : goal.returns-in_err-session_question
-returns-in_err-session_question c = let counts_long : length c.args.shape.counts ≡ 16 = search rules in
-    let accepted : let a = c.args in AreAccepted (lent a.shape a.sent.now a.received.now) = record {
-      sixteen = counts_long;
-      passed = is_accepted _ _ c.check.ensures c.in_ok-check.was;
-    } in
-    let asks : let a = c.args in of_session (lent c.rows_of-rows.result.shape a.sent.now a.received.now) a.session a.p a.strands.now ≡ of_session (lent a.shape a.sent.now a.received.now) a.session a.p a.strands.now = let a = c.args in
-    ap (λ (t : Shape). of_session (lent t a.sent.now a.received.now) a.session a.p a.strands.now) c.rows_of-rows.ensures.0 in
-    let a = c.args in
+returns-in_err-session_question c = let a = c.args in
+    let t = lent a.shape a.sent.now a.received.now in
+    let tables = c.in_ok-tables.tables in
     let e = c.in_err-session_question.field-0.0 in
-    let fails = turn_session (lent a.shape a.sent.now a.received.now) a.session a.p a.strands.now (accepted).passed e (sym (asks) ∙ refused_by _ _ c.session_question.ensures c.in_err-session_question.was) in
-    record { answer = hands_on _ e _ c.from_residual-in_err-session_question.ensures.1 (λ f same. same) fails; strands_after = turn_kept (lent a.shape a.sent.now a.received.now) a.session a.p a.strands.now e fails }
+    let fails = subst (λ (u : Tables). turn_question u a.session a.p a.strands.now ≡ number e)
+    (tables_are _ t c.accept.ensures c.in_ok-tables.was)
+    (turn_session (tables_in tables) a.session a.p a.strands.now tables.passed.accepted.passed e
+    (refused_by _ _ c.session_question.ensures c.in_err-session_question.was)) in
+    record { answer = hands_on _ e _ c.from_residual-in_err-session_question.ensures.1 (λ f same. same) fails; strands_after = turn_kept t a.session a.p a.strands.now e fails }
+
+-- what the passed questions say: the process is named, a process that there is, and so is the initiator
+passes : (c : In_ok-session_question) → let a = c.args in of_session (tables_in c.in_ok-tables.tables) a.session a.p a.strands.now ≡ 0
+passes c = is_accepted _ _ c.session_question.ensures c.in_ok-session_question.was
+
+named : (c : In_ok-session_question) → let a = c.args in participant_named c.in_ok-tables.tables.rows.shape.n a.p.0 a.session.initiator.0 ≡ true
+named c = let a = c.args in passed_names (tables_in c.in_ok-tables.tables) a.session a.p a.strands.now (passes c)
+
+there : (c : In_ok-session_question)
+    → let a = c.args in
+    let n = c.in_ok-tables.tables.rows.shape.n in
+    ((1 ≤ a.p.0) × (a.p.0 ≤ n)) × ((1 ≤ a.session.initiator.0) × (a.session.initiator.0 ≤ n))
+there c = let a = c.args in participant_there c.in_ok-tables.tables.rows.shape.n a.p.0 a.session.initiator.0 (named c)
+
+few : (c : In_ok-session_question) → c.args.p.0 - 1 < 16
+few c = omega (arith, accepted_size c.in_ok-tables.tables.passed.accepted, there c)
 
 pub overflow_sub-place : goal.overflow_sub-place
-overflow_sub-place c = let asks : let a = c.args in of_session (lent c.rows_of-rows.result.shape a.sent.now a.received.now) a.session a.p a.strands.now ≡ of_session (lent a.shape a.sent.now a.received.now) a.session a.p a.strands.now = let a = c.args in
-    ap (λ (t : Shape). of_session (lent t a.sent.now a.received.now) a.session a.p a.strands.now) c.rows_of-rows.ensures.0 in
-    let passes : let a = c.args in of_session (lent a.shape a.sent.now a.received.now) a.session a.p a.strands.now ≡ 0 = sym (asks) ∙ is_accepted _ _ c.session_question.ensures c.in_ok-session_question.was in
-    let named : let a = c.args in participant_named a.shape.n a.p.0 a.session.initiator.0 ≡ true = let a = c.args in passed_names (lent a.shape a.sent.now a.received.now) a.session a.p a.strands.now (passes) in
-    let there : let a = c.args in
-    ((1 ≤ a.p.0) × (a.p.0 ≤ a.shape.n)) × ((1 ≤ a.session.initiator.0) × (a.session.initiator.0 ≤ a.shape.n)) = let a = c.args in participant_there a.shape.n a.p.0 a.session.initiator.0 (named) in
-    (there).0.0
+overflow_sub-place c = (there (goal.at.overflow_sub-place c).In_ok-session_question).0.0
 
 pub offset_bounds-lengths-place : goal.offset_bounds-lengths-place
-offset_bounds-lengths-place c = let counts_long : length c.args.shape.counts ≡ 16 = search rules in
-    let accepted : let a = c.args in AreAccepted (lent a.shape a.sent.now a.received.now) = record {
-      sixteen = counts_long;
-      passed = is_accepted _ _ c.check.ensures c.in_ok-check.was;
-    } in
-    let asks : let a = c.args in of_session (lent c.rows_of-rows.result.shape a.sent.now a.received.now) a.session a.p a.strands.now ≡ of_session (lent a.shape a.sent.now a.received.now) a.session a.p a.strands.now = let a = c.args in
-    ap (λ (t : Shape). of_session (lent t a.sent.now a.received.now) a.session a.p a.strands.now) c.rows_of-rows.ensures.0 in
-    let passes : let a = c.args in of_session (lent a.shape a.sent.now a.received.now) a.session a.p a.strands.now ≡ 0 = sym (asks) ∙ is_accepted _ _ c.session_question.ensures c.in_ok-session_question.was in
-    let named : let a = c.args in participant_named a.shape.n a.p.0 a.session.initiator.0 ≡ true = let a = c.args in passed_names (lent a.shape a.sent.now a.received.now) a.session a.p a.strands.now (passes) in
-    let there : let a = c.args in
-    ((1 ≤ a.p.0) × (a.p.0 ≤ a.shape.n)) × ((1 ≤ a.session.initiator.0) × (a.session.initiator.0 ≤ a.shape.n)) = let a = c.args in participant_there a.shape.n a.p.0 a.session.initiator.0 (named) in
-    let few : c.args.p.0 - 1 < 16 = omega (arith, accepted_size (accepted), there) in
-    omega (arith, few)
+offset_bounds-lengths-place c = omega (arith, few (goal.at.offset_bounds-lengths-place c).In_ok-session_question)
 
 pub bounds-lengths-place : goal.bounds-lengths-place
-bounds-lengths-place c = let counts_long : length c.args.shape.counts ≡ 16 = search rules in
-    let accepted : let a = c.args in AreAccepted (lent a.shape a.sent.now a.received.now) = record {
-      sixteen = counts_long;
-      passed = is_accepted _ _ c.check.ensures c.in_ok-check.was;
-    } in
-    let asks : let a = c.args in of_session (lent c.rows_of-rows.result.shape a.sent.now a.received.now) a.session a.p a.strands.now ≡ of_session (lent a.shape a.sent.now a.received.now) a.session a.p a.strands.now = let a = c.args in
-    ap (λ (t : Shape). of_session (lent t a.sent.now a.received.now) a.session a.p a.strands.now) c.rows_of-rows.ensures.0 in
-    let passes : let a = c.args in of_session (lent a.shape a.sent.now a.received.now) a.session a.p a.strands.now ≡ 0 = sym (asks) ∙ is_accepted _ _ c.session_question.ensures c.in_ok-session_question.was in
-    let named : let a = c.args in participant_named a.shape.n a.p.0 a.session.initiator.0 ≡ true = let a = c.args in passed_names (lent a.shape a.sent.now a.received.now) a.session a.p a.strands.now (passes) in
-    let there : let a = c.args in
-    ((1 ≤ a.p.0) × (a.p.0 ≤ a.shape.n)) × ((1 ≤ a.session.initiator.0) × (a.session.initiator.0 ≤ a.shape.n)) = let a = c.args in participant_there a.shape.n a.p.0 a.session.initiator.0 (named) in
-    let few : c.args.p.0 - 1 < 16 = omega (arith, accepted_size (accepted), there) in
-    few
+bounds-lengths-place c = few (goal.at.bounds-lengths-place c).In_ok-session_question
 
 pub returns-then-lengths-place-eq0 : goal.returns-then-lengths-place-eq0
-returns-then-lengths-place-eq0 c = let counts_long : length c.args.shape.counts ≡ 16 = search rules in
-    let accepted : let a = c.args in AreAccepted (lent a.shape a.sent.now a.received.now) = record {
-      sixteen = counts_long;
-      passed = is_accepted _ _ c.check.ensures c.in_ok-check.was;
-    } in
-    let asks : let a = c.args in of_session (lent c.rows_of-rows.result.shape a.sent.now a.received.now) a.session a.p a.strands.now ≡ of_session (lent a.shape a.sent.now a.received.now) a.session a.p a.strands.now = let a = c.args in
-    ap (λ (t : Shape). of_session (lent t a.sent.now a.received.now) a.session a.p a.strands.now) c.rows_of-rows.ensures.0 in
-    let passes : let a = c.args in of_session (lent a.shape a.sent.now a.received.now) a.session a.p a.strands.now ≡ 0 = sym (asks) ∙ is_accepted _ _ c.session_question.ensures c.in_ok-session_question.was in
-    let a = c.args in
-    let fails = turn_nothing (lent a.shape a.sent.now a.received.now) a.session a.p a.strands.now (accepted).passed (passes) c.if-lengths-place-eq0.true in
-    record { answer = refuses Waiting _ fails; strands_after = turn_kept (lent a.shape a.sent.now a.received.now) a.session a.p a.strands.now Waiting fails }
+returns-then-lengths-place-eq0 c = let a = c.args in
+    let t = lent a.shape a.sent.now a.received.now in
+    let tables = c.in_ok-tables.tables in
+    let at = (goal.at.returns-then-lengths-place-eq0 c).In_ok-session_question in
+    let fails = subst (λ (u : Tables). turn_question u a.session a.p a.strands.now ≡ 18)
+    (tables_are _ t c.accept.ensures c.in_ok-tables.was)
+    (turn_nothing (tables_in tables) a.session a.p a.strands.now tables.passed.accepted.passed (passes at) c.if-lengths-place-eq0.true) in
+    record { answer = refuses Waiting _ fails; strands_after = turn_kept t a.session a.p a.strands.now Waiting fails }
 
 pub deliver-turned-requires : goal.deliver-turned-requires
-deliver-turned-requires c = let counts_long : length c.args.shape.counts ≡ 16 = search rules in
-    let accepted : let a = c.args in AreAccepted (lent a.shape a.sent.now a.received.now) = record {
-      sixteen = counts_long;
-      passed = is_accepted _ _ c.check.ensures c.in_ok-check.was;
-    } in
-    let given : let a = c.args in AcceptedRows c.rows_of-rows.result a.sent.now a.received.now = rows_accepted (accepted) c.rows_of-rows.ensures in
-    let asks : let a = c.args in of_session (lent c.rows_of-rows.result.shape a.sent.now a.received.now) a.session a.p a.strands.now ≡ of_session (lent a.shape a.sent.now a.received.now) a.session a.p a.strands.now = let a = c.args in
-    ap (λ (t : Shape). of_session (lent t a.sent.now a.received.now) a.session a.p a.strands.now) c.rows_of-rows.ensures.0 in
-    let passes : let a = c.args in of_session (lent a.shape a.sent.now a.received.now) a.session a.p a.strands.now ≡ 0 = sym (asks) ∙ is_accepted _ _ c.session_question.ensures c.in_ok-session_question.was in
-    let named : let a = c.args in participant_named a.shape.n a.p.0 a.session.initiator.0 ≡ true = let a = c.args in passed_names (lent a.shape a.sent.now a.received.now) a.session a.p a.strands.now (passes) in
-    let there : let a = c.args in
-    ((1 ≤ a.p.0) × (a.p.0 ≤ a.shape.n)) × ((1 ≤ a.session.initiator.0) × (a.session.initiator.0 ≤ a.shape.n)) = let a = c.args in participant_there a.shape.n a.p.0 a.session.initiator.0 (named) in
-    let a = c.args in
-    let rows = c.rows_of-rows in
-    let back = sym c.rows_of-rows.ensures.0 in record {
-      accepted_rows = given;
-      strands_value = subst (λ (t : Shape). session_fits (lent t a.sent.now a.received.now) a.session a.strands.now ≡ true) back (passed_fits (lent a.shape a.sent.now a.received.now) a.session a.p a.strands.now (passes));
-      le_initiator = subst (λ (t : Shape). (1 ≤ a.session.initiator.0) × (a.session.initiator.0 ≤ t.n)) back (there).1;
-      k_value = subst (λ (t : Shape). is_participant t.n (initiator_of a.session) (a.p.0 - 1) ≡ true) back
-          (is_participant_lem a.shape.n a.p.0 a.session.initiator.0 (named));
+deliver-turned-requires c = let a = c.args in
+    let tables = c.in_ok-tables.tables in
+    let at = (goal.at.deliver-turned-requires c).In_ok-session_question in
+    record {
+      strands_value = passed_fits (tables_in tables) a.session a.p a.strands.now (passes at);
+      le_initiator = (there at).1;
+      k_value = is_participant_lem tables.rows.shape.n a.p.0 a.session.initiator.0 (named at);
       fact = c.if-lengths-place-eq0.false;
     }
 
 pub post_if_room-requires : goal.post_if_room-requires
-post_if_room-requires c = let counts_long : length c.args.shape.counts ≡ 16 = search rules in
-    let accepted : let a = c.args in AreAccepted (lent a.shape a.sent.now a.received.now) = record {
-      sixteen = counts_long;
-      passed = is_accepted _ _ c.check.ensures c.in_ok-check.was;
-    } in
-    let asks : let a = c.args in of_session (lent c.rows_of-rows.result.shape a.sent.now a.received.now) a.session a.p a.strands.now ≡ of_session (lent a.shape a.sent.now a.received.now) a.session a.p a.strands.now = let a = c.args in
-    ap (λ (t : Shape). of_session (lent t a.sent.now a.received.now) a.session a.p a.strands.now) c.rows_of-rows.ensures.0 in
-    let passes : let a = c.args in of_session (lent a.shape a.sent.now a.received.now) a.session a.p a.strands.now ≡ 0 = sym (asks) ∙ is_accepted _ _ c.session_question.ensures c.in_ok-session_question.was in
-    let named : let a = c.args in participant_named a.shape.n a.p.0 a.session.initiator.0 ≡ true = let a = c.args in passed_names (lent a.shape a.sent.now a.received.now) a.session a.p a.strands.now (passes) in
-    let there : let a = c.args in
-    ((1 ≤ a.p.0) × (a.p.0 ≤ a.shape.n)) × ((1 ≤ a.session.initiator.0) × (a.session.initiator.0 ≤ a.shape.n)) = let a = c.args in participant_there a.shape.n a.p.0 a.session.initiator.0 (named) in
-    let delivered : let a = c.args in c.deliver-turned.result ≡ next (lent a.shape a.sent.now a.received.now) a.session a.p a.strands.now = let a = c.args in
-    c.deliver-turned.ensures
-    ∙ ap (λ (t : Shape). turned (lent t a.sent.now a.received.now) a.session a.p a.strands.now) c.rows_of-rows.ensures.0 in
-    let a = c.args in record { le_n = accepted_size (accepted); le_initiator = turn_initiator (lent a.shape a.sent.now a.received.now) a.session a.p a.strands.now c.deliver-turned.result (delivered) (there).1.0 }
+post_if_room-requires c = let a = c.args in
+    let tables = c.in_ok-tables.tables in
+    let at = (goal.at.post_if_room-requires c).In_ok-session_question in
+    record {
+      le_n = accepted_size tables.passed.accepted;
+      le_initiator = turn_initiator (tables_in tables) a.session a.p a.strands.now c.deliver-turned.result c.deliver-turned.ensures (there at).1.0;
+    }
 
 pub returns : goal.returns
-returns c = let counts_long : length c.args.shape.counts ≡ 16 = search rules in
-    let accepted : let a = c.args in AreAccepted (lent a.shape a.sent.now a.received.now) = record {
-      sixteen = counts_long;
-      passed = is_accepted _ _ c.check.ensures c.in_ok-check.was;
-    } in
-    let asks : let a = c.args in of_session (lent c.rows_of-rows.result.shape a.sent.now a.received.now) a.session a.p a.strands.now ≡ of_session (lent a.shape a.sent.now a.received.now) a.session a.p a.strands.now = let a = c.args in
-    ap (λ (t : Shape). of_session (lent t a.sent.now a.received.now) a.session a.p a.strands.now) c.rows_of-rows.ensures.0 in
-    let passes : let a = c.args in of_session (lent a.shape a.sent.now a.received.now) a.session a.p a.strands.now ≡ 0 = sym (asks) ∙ is_accepted _ _ c.session_question.ensures c.in_ok-session_question.was in
-    let delivered : let a = c.args in c.deliver-turned.result ≡ next (lent a.shape a.sent.now a.received.now) a.session a.p a.strands.now = let a = c.args in
-    c.deliver-turned.ensures
-    ∙ ap (λ (t : Shape). turned (lent t a.sent.now a.received.now) a.session a.p a.strands.now) c.rows_of-rows.ensures.0 in
-    let a = c.args in
+returns c = let a = c.args in
+    let t = lent a.shape a.sent.now a.received.now in
+    let tables = c.in_ok-tables.tables in
+    let at = (goal.at.returns c).In_ok-session_question in
     let done = c.post_if_room in
-    let whole = turn_posted (lent a.shape a.sent.now a.received.now) a.session a.p a.strands.now (accepted).passed (passes) c.if-lengths-place-eq0.false c.deliver-turned.result (delivered) done.result
+    let same = tables_are _ t c.accept.ensures c.in_ok-tables.was in
+    let whole = turn_posted (tables_in tables) a.session a.p a.strands.now tables.passed.accepted.passed (passes at) c.if-lengths-place-eq0.false
+    c.deliver-turned.result
+    c.deliver-turned.ensures
+    done.result
     c.post_if_room.new.strands
     (c.post_if_room.ensures.answer, c.post_if_room.ensures.strands_after) in
-    record { answer = whole.0; strands_after = whole.1 }
+    record {
+      answer = whole.0 ∙ ap (λ (u : Tables). answer_with (turn_question u a.session a.p a.strands.now) (session_after u a.session a.p a.strands.now)) same;
+      strands_after = whole.1 ∙ ap (λ (u : Tables). strands_after u a.session a.p a.strands.now) same;
+    }

@@ -1,7 +1,7 @@
 -- `all_below` meets its contract. The invariant: the words so far are below the bound.
 use mathlib.Core.Path.{◌≡◌}
 use mathlib.Core.Bool.{true}
-use Prim.Native.Nat.{◌+◌, ◌-◌}
+use Prim.Native.Nat.{◌+◌}
 use lib.Dec.{ltb}
 use Rattle.lists.proofs.Before.{Before}
 use Rattle.words.specs.Words.{word}

@@ -1,5 +1,4 @@
 -- `counts_in` meets its contract. The invariant: the counters so far are the entries.
-use Prim.Native.Nat.{◌-◌}
 use lib.ListN.{get_or}
 use Rattle.book.specs.declared.Count.{Count}
 use Rattle.book.specs.Bounds.{most_processes}

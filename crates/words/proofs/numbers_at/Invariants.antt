@@ -1,5 +1,5 @@
 -- `numbers_at` meets its contract. The invariant: the numbers so far are the words.
-use Prim.Native.Nat.{◌+◌, ◌-◌}
+use Prim.Native.Nat.{◌+◌}
 use Rattle.book.specs.Bounds.{most_processes}
 use Rattle.words.specs.Words.{word}
 use Rattle.lists.proofs.Filling.{Filled}

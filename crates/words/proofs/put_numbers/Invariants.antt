@@ -1,5 +1,4 @@
 -- `put_numbers` meets its contract. The invariant: the numbers so far are stored.
-use Prim.Native.Nat.{◌-◌}
 use lib.ListN.{get_or}
 use Rattle.book.specs.Bounds.{most_processes}
 use Rattle.words.proofs.Storing.{Stored}

@@ -9,4 +9,4 @@ pub returns : goal.returns
 unfolding resend_words
 returns c = let a = c.args in
     sets_then (count_words matrix_length a.resend.first) (count_words matrix_length a.resend.last) a.words.now a.at
-    c.put_matrix.ensures (simp length_tab) c.put_matrix-2.ensures
+    c.put_counts.ensures (simp length_tab) c.put_counts-2.ensures

@@ -1,5 +1,4 @@
 -- `put_set` meets its contract. The invariant: the checkpoint numbers so far are stored.
-use Prim.Native.Nat.{◌-◌}
 use Rattle.book.specs.Bounds.{most_processes}
 use Rattle.consistency.specs.Set.{chosen}
 use Rattle.words.proofs.Storing.{Stored}

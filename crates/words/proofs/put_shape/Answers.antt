@@ -1,10 +1,8 @@
 -- `put_shape` meets its contract.
-use mathlib.Core.Path.{ap, ◌∙◌}
+use mathlib.Core.Path.{◌∙◌}
 use mathlib.Core.List.{◌∷◌}
-use Prim.Native.Nat.{ℕ}
 use native.Mathlib.Omega.{arith}
 use lib.ListN.{length-set}
-use lib.Seq.{sets}
 use Rattle.lists.proofs.Over.{length_tab}
 use Rattle.words.specs.Plain.{number_words, shape_words}
 use Rattle.words.proofs.Storing.{sets_all}
@@ -20,5 +18,4 @@ pub returns : goal.returns
 unfolding shape_words
 returns c = let a = c.args in
     let ns = number_words a.shape.counts in
-    sets_all (a.shape.n ∷ ns) a.words.now (simp length_tab (omega (arith, c.requires)))
-    (c.put_numbers.ensures ∙ ap (λ (n : ℕ). sets a.words.now 0 (n ∷ ns)) c.of_number.ensures)
+    sets_all (a.shape.n ∷ ns) a.words.now (simp length_tab (omega (arith, c.requires))) c.put_numbers.ensures

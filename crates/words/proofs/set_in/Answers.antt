@@ -1,6 +1,5 @@
-use mathlib.Core.Path.{refl, ap}
+use mathlib.Core.Path.{refl}
 use native.Mathlib.Omega.{arith}
-use Rattle.book.specs.declared.Checkpoint.{Checkpoint}
 use Rattle.finder.specs.Line.{checkpoints}
 use Rattle.words.specs.Plain.{set_in}
 use Rattle.lists.proofs.Filling.{filled_none, filled_more, filled_all}
@@ -10,7 +9,7 @@ pub loop-i-init : goal.loop-i-init
 loop-i-init c = filled_none (omega arith)
 
 pub loop-i-preserved : goal.loop-i-preserved
-loop-i-preserved c = filled_more c.loop-i.invariant c.loop-i-test.true (ap {B = Checkpoint} (λ v. record { 0 = v }) c.number.ensures)
+loop-i-preserved c = filled_more c.loop-i.invariant c.loop-i-test.true refl
 
 pub returns : goal.returns
 unfolding set_in checkpoints

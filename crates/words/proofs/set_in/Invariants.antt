@@ -1,5 +1,4 @@
 -- `set_in` meets its contract. The invariant: the numbers so far are the words.
-use Prim.Native.Nat.{◌-◌}
 use Rattle.book.specs.declared.Checkpoint.{Checkpoint}
 use Rattle.book.specs.Bounds.{most_processes}
 use Rattle.words.specs.Words.{word}

@@ -21,4 +21,4 @@ bounds-table-at c = omega (arith, near (goal.at.bounds-table-at c).After-partner
 
 pub returns : goal.returns
 returns c = let a = c.args in
-    c.wide.ensures ∙ ap (λ (i : ℕ). get_or a.table.now (a.row * 16 + i) 0) c.partner_column.ensures
+    c.from.ensures ∙ ap (λ (i : ℕ). get_or a.table.now (a.row * 16 + i) 0) c.partner_column.ensures

@@ -1,7 +1,7 @@
 -- `step` meets its contract.
 use mathlib.Core.Path.{sym, ◌∙◌}
 use Prim.Native.Nat.{ℕ, ◌-◌}
-use Rattle.book.specs.Lent.{lent}
+use Rattle.accepted.specs.Holding.{tables_in}
 use Rattle.machine.specs.Own.{Own, own_of}
 use Rattle.initiator.proofs.Steps.{taken_me, back_keeps, step_silent, step_compared}
 use Rattle.initiator.proofs.Initiator.step.Goals as goal
@@ -9,7 +9,7 @@ use Rattle.initiator.proofs.Initiator.step.Goals.{Start}
 
 -- what a process sees
 abbrev own : Start → ℕ → Own
-own c j = let a = c.args in own_of (lent a.rows.shape a.sent.now a.received.now) j
+own c j = let a = c.args in own_of (tables_in a.tables.now) j
 
 -- reports are still out:
 -- it goes on waiting
@@ -25,7 +25,7 @@ pub step_back-stepped-requires : goal.step_back-stepped-requires
 step_back-stepped-requires c =
     let a = c.args in
     let taken = c.take_report-taken in
-    (c.requires.accepted_rows.0, rw (taken_me a.self a.message taken.result taken.ensures) c.requires.accepted_rows.1)
+    rw (taken_me a.self a.message taken.result taken.ensures) c.requires.is_process
 
 pub compare-requires : goal.compare-requires
 compare-requires c =
@@ -33,7 +33,7 @@ compare-requires c =
     let taken = c.take_report-taken in
     back_keeps (own (goal.at.compare-requires c).Start (taken.result.me.0 - 1)) a.self a.message taken.result c.step_back-stepped.result taken.ensures
     c.step_back-stepped.ensures
-    c.requires.accepted_rows.1.0
+    c.requires.is_process.0
     c.requires.rounds_lt_tally_limit
 
 pub returns : goal.returns

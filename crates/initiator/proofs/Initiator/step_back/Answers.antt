@@ -1,7 +1,7 @@
 -- `step_back` meets its contract.
 use Prim.Native.Nat.{◌-◌}
 use native.Mathlib.Omega.{arith}
-use Rattle.book.specs.Lent.{lent}
+use Rattle.accepted.specs.Holding.{tables_in}
 use Rattle.line_theory.proofs.Accepted.{rows_few}
 use Rattle.consistency.proofs.Calls.{sent_whole, received_whole, received_rise}
 use Rattle.machine.specs.Own.{own_of}
@@ -14,15 +14,15 @@ column-known-requires c = omega (arith, rows_few)
 
 pub newest_near-candidate-requires : goal.newest_near-candidate-requires
 newest_near-candidate-requires c =
-    let given = c.requires in
-    record { whole = (received_whole given.0, given.1); rises = received_rise given.0 given.1 }
+    let passed = c.args.tables.now.passed in
+    record { whole = (received_whole passed, c.requires); rises = received_rise passed c.requires }
 
 pub sent_row-row-requires : goal.sent_row-row-requires
 sent_row-row-requires c =
-    let given = c.requires in
+    let passed = c.args.tables.now.passed in
     record {
-      whole = (sent_whole given.0, given.1);
-      le_r = newest_there c.args.self.me.0 c.column-known.result given.0 given.1 c.newest_near-candidate.ensures;
+      whole = (sent_whole passed, c.requires);
+      le_r = newest_there c.args.self.me.0 c.column-known.result passed c.requires c.newest_near-candidate.ensures;
     }
 
 pub with_row-matrix-requires : goal.with_row-matrix-requires
@@ -34,7 +34,7 @@ returns c =
     let known = c.column-known in
     let newest = c.newest_near-candidate in
     let row = c.sent_row-row in
-    back_is (own_of (lent a.rows.shape a.sent.now a.received.now) (a.self.me.0 - 1)) a.self known.result newest.result row.result
+    back_is (own_of (tables_in a.tables.now) (a.self.me.0 - 1)) a.self known.result newest.result row.result
     c.with_row-matrix.result
     known.ensures
     newest.ensures

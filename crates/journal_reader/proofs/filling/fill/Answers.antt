@@ -11,8 +11,8 @@ clear-requires c = (omega arith, omega (arith, journal_passed _ _ _ c.requires.r
 pub clear-requires-2 : goal.clear-requires-2
 clear-requires-2 c = (omega arith, omega (arith, journal_passed _ _ _ c.requires.received_value))
 
-pub rows_of-rows-requires : goal.rows_of-rows-requires
-rows_of-rows-requires c = shape_fits _ _ _ _ c.requires.received_value c.requires.shape_value
+pub rows_of-requires : goal.rows_of-requires
+rows_of-requires c = shape_fits _ _ _ _ c.requires.received_value c.requires.shape_value
 
 -- an accepted journal has a leading n
 pub returns-in_default : goal.returns-in_default
@@ -21,4 +21,4 @@ returns-in_default c =
 
 pub put_events-requires : goal.put_events-requires
 put_events-requires c = to_fill _ _ _ _ c.requires.received_value c.requires.shape_value _ _ (sym c.in-Some.ensures) _
-    c.rows_of-rows.ensures.1 _ _ c.clear.ensures c.clear-2.ensures
+    c.rows_of.ensures.1 _ _ c.clear.ensures c.clear-2.ensures

@@ -14,7 +14,7 @@ pub loop-p-init : goal.loop-p-init
 loop-p-init c = stored_none
 
 pub loop-p-preserved : goal.loop-p-preserved
-loop-p-preserved c = stored_more c.loop-p.invariant c.loop-p-test.true _ refl
+loop-p-preserved c = stored_more c.loop-p.invariant c.loop-p-test.true _ c.from.ensures
 
 pub shape_of-table : goal.shape_of-table
 shape_of-table c = c.loop-p.invariant.same

@@ -1,5 +1,4 @@
 -- `all_none_above` meets its contract. The invariant: `below` is the answer for the entries before i.
-use Prim.Native.Nat.{◌-◌}
 use Rattle.matrix.proofs.Sweep.{Below}
 use Rattle.matrix.proofs.whole.all_none_above.Given as goal
 

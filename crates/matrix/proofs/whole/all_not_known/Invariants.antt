@@ -1,7 +1,6 @@
 -- `all_not_known` meets its contract. The invariant: in the rows so far nothing is known.
 use mathlib.Core.Path.{◌≡◌}
 use mathlib.Core.Bool.{true}
-use Prim.Native.Nat.{◌-◌}
 use Rattle.matrix.specs.Matrix.{row, not_known_row}
 use Rattle.matrix.specs.Entries.{same}
 use Rattle.lists.proofs.Before.{Before}

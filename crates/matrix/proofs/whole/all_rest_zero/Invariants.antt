@@ -1,7 +1,6 @@
 -- `all_rest_zero` meets its contract. The invariant: the rows so far are zero where they must be.
 use mathlib.Core.Path.{◌≡◌}
 use mathlib.Core.Bool.{true}
-use Prim.Native.Nat.{◌-◌}
 use Rattle.matrix.specs.Matrix.{row}
 use Rattle.matrix.specs.Entries.{rest_zero}
 use Rattle.lists.proofs.Before.{Before}

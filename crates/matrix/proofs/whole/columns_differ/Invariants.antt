@@ -1,5 +1,4 @@
 -- `columns_differ` meets its contract. The invariant: the flags are the answer for the entries before i.
-use Prim.Native.Nat.{◌-◌}
 use Rattle.matrix.proofs.Sweep.{Differ}
 use Rattle.matrix.proofs.whole.columns_differ.Given as goal
 

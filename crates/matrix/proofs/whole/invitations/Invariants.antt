@@ -1,5 +1,5 @@
 -- `invitations` meets its contract. The invariant: the news so far are the own counters, and from there on nothing is known.
-use Prim.Native.Nat.{◌-◌, ◌/◌, ◌%◌}
+use Prim.Native.Nat.{◌/◌, ◌%◌}
 use lib.Dec.{eqb}
 use Rattle.lists.specs.Pick.{pick}
 use Rattle.lists.proofs.Filling.{Filled}

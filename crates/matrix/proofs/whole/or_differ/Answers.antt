@@ -1,5 +1,4 @@
 -- `or_differ` meets its contract.
-use mathlib.Core.Path.{sym, ◌∙◌}
 use Rattle.matrix.proofs.whole.or_differ.Goals as goal
 
 pub returns-then-ne : goal.returns-then-ne

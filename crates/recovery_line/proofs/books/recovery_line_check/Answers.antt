@@ -27,4 +27,5 @@ returns-in-Err c = let a = c.args in
 pub returns-in-Ok : goal.returns-in-Ok
 returns-in-Ok c = let a = c.args in
     check_asked a.shape.now a.sent.now a.received.now
-    c.shape_question-question.ensures c.if-question-ne0.false c.shape_in-given.ensures (sym (is_accepted _ _ c.check.ensures c.in-Ok.is))
+    c.shape_question-question.ensures c.if-question-ne0.false c.shape_in-given.ensures
+    (sym (is_accepted _ _ c.check.ensures c.in-Ok.is))

@@ -29,6 +29,7 @@ returns-in-Err c = let a = c.args in
 pub returns-in-Ok : goal.returns-in-Ok
 returns-in-Ok c = let a = c.args in
     let whole = journal_taken a.bytes.now a.shape.now a.sent.now a.received.now
-    c.shape_question-question.ensures c.if-question-ne0.false (sym (is_accepted _ _ c.read.ensures.answer c.in-Ok.is)) c.read.ensures.sent c.read.ensures.received
+    c.shape_question-question.ensures c.if-question-ne0.false
+    (sym (is_accepted _ _ c.read.ensures.answer c.in-Ok.is)) c.read.ensures.sent c.read.ensures.received
     refl (value_is _ _ c.read.ensures.answer c.in-Ok.is) c.put_shape.ensures in
     record { value = whole.0; shape_after = whole.1.0; sent_after = whole.1.1.0; received_after = whole.1.1.1 }

@@ -36,6 +36,7 @@ returns-in-Err c = let a = c.args in
 pub returns-in-Ok : goal.returns-in-Ok
 returns-in-Ok c = let a = c.args in
     let whole = find_found a.shape.now a.sent.now a.received.now a.line.now a.passed.now
-    c.two_question-question.ensures c.if-question-ne0.false c.shape_in-given.ensures (sym (is_accepted _ _ c.find_line.ensures c.in-Ok.is))
+    c.two_question-question.ensures c.if-question-ne0.false c.shape_in-given.ensures
+    (sym (is_accepted _ _ c.find_line.ensures c.in-Ok.is))
     refl (value_is _ _ c.find_line.ensures c.in-Ok.is) c.put_set.ensures c.of_number.ensures in
     record { value = whole.0; line_after = whole.1.0; passed_after = whole.1.1 }

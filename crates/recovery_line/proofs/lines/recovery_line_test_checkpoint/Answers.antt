@@ -41,7 +41,8 @@ unfolding answer_to_column
 returns-in-Ok-None c = let a = c.args in
     let whole = column_named a.shape.now a.sent.now a.received.now a.process a.checkpoint a.known.now a.partner.now
     c.two_question-question.ensures c.if-question-ne0.false c.shape_in-given.ensures c.counts_in-counts.ensures
-    c.number.ensures c.number-2.ensures (sym (is_accepted _ _ c.test_checkpoint.ensures c.in-Ok-None.is))
+    c.number.ensures c.number-2.ensures
+    (sym (is_accepted _ _ c.test_checkpoint.ensures c.in-Ok-None.is))
     refl (sym c.in-Ok-None.field-0-is ∙ value_is _ _ c.test_checkpoint.ensures c.in-Ok-None.is) refl in
     record { value = whole.0; partner_after = whole.1 }
 
@@ -50,6 +51,7 @@ unfolding answer_to_column
 returns-in-Ok-Some c = let a = c.args in
     let whole = column_named a.shape.now a.sent.now a.received.now a.process a.checkpoint a.known.now a.partner.now
     c.two_question-question.ensures c.if-question-ne0.false c.shape_in-given.ensures c.counts_in-counts.ensures
-    c.number.ensures c.number-2.ensures (sym (is_accepted _ _ c.test_checkpoint.ensures c.in-Ok-Some.is))
+    c.number.ensures c.number-2.ensures
+    (sym (is_accepted _ _ c.test_checkpoint.ensures c.in-Ok-Some.is))
     refl (sym c.in-Ok-Some.field-0-is ∙ value_is _ _ c.test_checkpoint.ensures c.in-Ok-Some.is) c.of_number.ensures in
     record { value = whole.0; partner_after = whole.1 }

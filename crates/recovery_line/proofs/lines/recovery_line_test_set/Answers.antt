@@ -50,7 +50,8 @@ pub returns-in-Ok-None : goal.returns-in-Ok-None
 unfolding answer_to_test
 returns-in-Ok-None c = let a = c.args in
     let whole = test_shown a.shape.now a.sent.now a.received.now a.set.now a.pair.now
-    c.three_question-question.ensures c.if-question-ne0.false c.shape_in-given.ensures c.set_in-chosen.ensures (sym (is_accepted _ _ c.test_set.ensures c.in-Ok-None.is))
+    c.three_question-question.ensures c.if-question-ne0.false c.shape_in-given.ensures c.set_in-chosen.ensures
+    (sym (is_accepted _ _ c.test_set.ensures c.in-Ok-None.is))
     refl (sym c.in-Ok-None.field-0-is ∙ value_is _ _ c.test_set.ensures c.in-Ok-None.is) c.put_pair.ensures in
     record { value = whole.0; pair_after = whole.1 }
 
@@ -58,6 +59,7 @@ pub returns-in-Ok-Some : goal.returns-in-Ok-Some
 unfolding answer_to_test
 returns-in-Ok-Some c = let a = c.args in
     let whole = test_shown a.shape.now a.sent.now a.received.now a.set.now a.pair.now
-    c.three_question-question.ensures c.if-question-ne0.false c.shape_in-given.ensures c.set_in-chosen.ensures (sym (is_accepted _ _ c.test_set.ensures c.in-Ok-Some.is))
+    c.three_question-question.ensures c.if-question-ne0.false c.shape_in-given.ensures c.set_in-chosen.ensures
+    (sym (is_accepted _ _ c.test_set.ensures c.in-Ok-Some.is))
     refl (sym c.in-Ok-Some.field-0-is ∙ value_is _ _ c.test_set.ensures c.in-Ok-Some.is) c.put_pair-in-Ok-Some.ensures in
     record { value = whole.0; pair_after = whole.1 }

@@ -45,6 +45,7 @@ pub returns-in-Ok : goal.returns-in-Ok
 returns-in-Ok c = let a = c.args in
     let whole = begin_done a.shape.now a.sent.now a.received.now a.me a.purpose a.state.now a.out.now a.lengths.now
     c.three_question-question.ensures c.if-question-ne0.false c.shape_in-given.ensures
-    c.number.ensures (sym (is_accepted _ _ c.begin.ensures.answer c.in-Ok.is)) c.begin.ensures.out_after
+    c.number.ensures
+    (sym (is_accepted _ _ c.begin.ensures.answer c.in-Ok.is)) c.begin.ensures.out_after
     refl (value_is _ _ c.begin.ensures.answer c.in-Ok.is) c.put_initiator.ensures c.put_numbers.ensures in
     record { value = whole.0; state_after = whole.1.0; out_after = whole.1.1.0; lengths_after = whole.1.1.1 }

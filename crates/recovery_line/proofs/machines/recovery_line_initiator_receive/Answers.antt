@@ -51,6 +51,7 @@ pub returns-in-Ok : goal.returns-in-Ok
 returns-in-Ok c = let a = c.args in
     let whole = report_done a.state.now a.shape.now a.sent.now a.received.now a.message.now a.out.now a.lengths.now
     c.three_question-question.ensures c.if-question-ne0.false c.shape_in-given.ensures
-    c.initiator_in-machine.ensures (sym (is_accepted _ _ c.receive.ensures.answer c.in-Ok.is)) c.receive.ensures.out_after
+    c.initiator_in-machine.ensures
+    (sym (is_accepted _ _ c.receive.ensures.answer c.in-Ok.is)) c.receive.ensures.out_after
     refl (value_is _ _ c.receive.ensures.answer c.in-Ok.is) c.put_initiator.ensures c.put_numbers.ensures in
     record { value = whole.0; state_after = whole.1.0; out_after = whole.1.1.0; lengths_after = whole.1.1.1 }

@@ -37,6 +37,7 @@ returns-in-Err c = let a = c.args in
 pub returns-in-Ok : goal.returns-in-Ok
 returns-in-Ok c = let a = c.args in
     let whole = first_made a.shape.now a.sent.now a.received.now a.me a.initiator a.purpose a.state.now
-    c.two_question-question.ensures c.if-question-ne0.false c.shape_in-given.ensures c.number.ensures c.number-2.ensures (sym (is_accepted _ _ c.first.ensures c.in-Ok.is))
+    c.two_question-question.ensures c.if-question-ne0.false c.shape_in-given.ensures c.number.ensures c.number-2.ensures
+    (sym (is_accepted _ _ c.first.ensures c.in-Ok.is))
     refl (value_is _ _ c.first.ensures c.in-Ok.is) c.put_participant.ensures in
     record { value = whole.0; state_after = whole.1 }

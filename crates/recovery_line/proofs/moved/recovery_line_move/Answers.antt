@@ -41,6 +41,7 @@ returns-in-Err c = let a = c.args in
 pub returns-in-Ok : goal.returns-in-Ok
 returns-in-Ok c = let a = c.args in
     let whole = move_done a.shape.now a.sent.now a.received.now a.purpose a.order.now
-    c.two_question-question.ensures c.if-question-ne0.false c.shape_in-given.ensures (sym (is_accepted _ _ c.move_line.ensures.answer c.in-Ok.is)) c.move_line.ensures.sent_after c.move_line.ensures.received_after
+    c.two_question-question.ensures c.if-question-ne0.false c.shape_in-given.ensures
+    (sym (is_accepted _ _ c.move_line.ensures.answer c.in-Ok.is)) c.move_line.ensures.sent_after c.move_line.ensures.received_after
     refl (value_is _ _ c.move_line.ensures.answer c.in-Ok.is) c.put_shape.ensures c.put_order.ensures in
     record { value = whole.0; shape_after = whole.1.0; sent_after = whole.1.1.0; received_after = whole.1.1.1.0; order_after = whole.1.1.1.1 }

@@ -35,6 +35,7 @@ returns-in-Err c = let a = c.args in
 pub returns-in-Ok : goal.returns-in-Ok
 returns-in-Ok c = let a = c.args in
     let whole = order_given_lem a.shape.now a.sent.now a.received.now a.purpose a.order.now
-    c.two_question-question.ensures c.if-question-ne0.false c.shape_in-given.ensures (sym (is_accepted _ _ c.restart_order.ensures c.in-Ok.is))
+    c.two_question-question.ensures c.if-question-ne0.false c.shape_in-given.ensures
+    (sym (is_accepted _ _ c.restart_order.ensures c.in-Ok.is))
     refl (value_is _ _ c.restart_order.ensures c.in-Ok.is) c.put_order.ensures in
     record { value = whole.0; order_after = whole.1 }

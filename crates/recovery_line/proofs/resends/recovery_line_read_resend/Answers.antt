@@ -20,6 +20,7 @@ returns-in-Err c = let a = c.args in
 pub returns-in-Ok : goal.returns-in-Ok
 returns-in-Ok c = let a = c.args in
     let whole = read_taken a.n a.bytes.now a.resend.now
-    c.if-resend-ne-RESEND_WORDS.false c.number.ensures (sym (is_accepted _ _ c.read.ensures c.in-Ok.is))
+    c.if-resend-ne-RESEND_WORDS.false c.number.ensures
+    (sym (is_accepted _ _ c.read.ensures c.in-Ok.is))
     refl (value_is _ _ c.read.ensures c.in-Ok.is) c.put_resend.ensures in
     record { value = whole.0; resend_after = whole.1 }

@@ -32,6 +32,7 @@ pub returns-in-Ok : goal.returns-in-Ok
 unfolding answer_to_write_list
 returns-in-Ok c = let a = c.args in
     let whole = write_done a.shape.now a.sent.now a.received.now a.purpose a.out.now a.length.now
-    c.shape_question-question.ensures c.if-question-ne0.false c.shape_in-given.ensures (sym (is_accepted _ _ c.write.ensures.answer c.in-Ok.is)) c.write.ensures.bytes
+    c.shape_question-question.ensures c.if-question-ne0.false c.shape_in-given.ensures
+    (sym (is_accepted _ _ c.write.ensures.answer c.in-Ok.is)) c.write.ensures.bytes
     refl (value_is _ _ c.write.ensures.answer c.in-Ok.is) c.of_number.ensures in
     record { value = whole.0; out_after = whole.1.0; length_after = whole.1.1 }

@@ -39,6 +39,7 @@ pub returns-in-Ok : goal.returns-in-Ok
 returns-in-Ok c = let a = c.args in
     let whole = search_ended a.shape.now a.sent.now a.received.now a.initiator a.purpose a.set.now
     a.newer.now a.rounds.now a.messages.now
-    c.two_question-question.ensures c.if-question-ne0.false c.shape_in-given.ensures c.number.ensures (sym (is_accepted _ _ c.search.ensures.answer c.in-Ok.is))
+    c.two_question-question.ensures c.if-question-ne0.false c.shape_in-given.ensures c.number.ensures
+    (sym (is_accepted _ _ c.search.ensures.answer c.in-Ok.is))
     refl (value_is _ _ c.search.ensures.answer c.in-Ok.is) c.put_set.ensures c.of_number.ensures c.of_tally.ensures c.of_tally-in-Ok.ensures in
     record { value = whole.0; set_after = whole.1.0; newer_after = whole.1.1.0; rounds_after = whole.1.1.1.0; messages_after = whole.1.1.1.1 }

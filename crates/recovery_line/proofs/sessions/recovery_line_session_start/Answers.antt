@@ -36,6 +36,7 @@ returns-in-Err c = let a = c.args in
 pub returns-in-Ok : goal.returns-in-Ok
 returns-in-Ok c = let a = c.args in
     let whole = start_done a.shape.now a.sent.now a.received.now a.initiator a.purpose a.session.now a.strands.now
-    c.two_question-question.ensures c.if-question-ne0.false c.shape_in-given.ensures c.number.ensures (sym (is_accepted _ _ c.start.ensures.answer c.in-Ok.is)) c.start.ensures.strands_after
+    c.two_question-question.ensures c.if-question-ne0.false c.shape_in-given.ensures c.number.ensures
+    (sym (is_accepted _ _ c.start.ensures.answer c.in-Ok.is)) c.start.ensures.strands_after
     refl (value_is _ _ c.start.ensures.answer c.in-Ok.is) c.put_session.ensures in
     record { value = whole.0; session_after = whole.1.0; strands_after = whole.1.1 }

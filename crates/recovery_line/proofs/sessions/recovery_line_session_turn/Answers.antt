@@ -44,6 +44,7 @@ pub returns-in-Ok : goal.returns-in-Ok
 returns-in-Ok c = let a = c.args in
     let whole = turn_done a.session.now a.shape.now a.sent.now a.received.now a.p a.strands.now
     c.two_question-question.ensures c.if-question-ne0.false c.shape_in-given.ensures c.number.ensures
-    c.session_in-held.ensures (sym (is_accepted _ _ c.turn.ensures.answer c.in-Ok.is)) c.turn.ensures.strands_after
+    c.session_in-held.ensures
+    (sym (is_accepted _ _ c.turn.ensures.answer c.in-Ok.is)) c.turn.ensures.strands_after
     refl (value_is _ _ c.turn.ensures.answer c.in-Ok.is) c.put_session.ensures in
     record { value = whole.0; session_after = whole.1.0; strands_after = whole.1.1 }

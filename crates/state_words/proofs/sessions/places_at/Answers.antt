@@ -9,7 +9,7 @@ loop-k-init c = filled_none (omega arith)
 
 pub loop-k-preserved : goal.loop-k-preserved
 loop-k-preserved c = filled_more c.loop-k.invariant c.loop-k-test.true
-    (rw (c.number.ensures, c.place_start-at.ensures) at c.participant_at.ensures)
+    (rw c.place_start-at.ensures at c.participant_at.ensures)
 
 pub returns : goal.returns
 unfolding places_at

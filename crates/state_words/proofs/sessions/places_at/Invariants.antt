@@ -1,5 +1,4 @@
 -- `places_at` meets its contract. The invariant: the participants so far are those in the words.
-use Prim.Native.Nat.{◌-◌}
 use Rattle.book.specs.Bounds.{most_processes}
 use Rattle.participant.specs.Calls.{no_participant}
 use Rattle.words.specs.Words.{word}

@@ -1,7 +1,6 @@
 -- `places_decode` meets its contract. The invariant: the participants so far decode.
 use mathlib.Core.Path.{◌≡◌}
 use mathlib.Core.Bool.{true}
-use Prim.Native.Nat.{◌-◌}
 use Rattle.book.specs.Bounds.{most_processes}
 use Rattle.lists.proofs.Before.{Before}
 use Rattle.words.specs.Session.{place_start}

@@ -1,6 +1,4 @@
 -- `put_places` meets its contract. The invariant: the participants so far stand at their places.
-use Prim.Native.Nat.{◌-◌}
-use Rattle.book.specs.Bounds.{most_processes}
 use Rattle.state_words.proofs.Places.{Placed}
 use Rattle.state_words.proofs.sessions.put_places.Given as goal
 

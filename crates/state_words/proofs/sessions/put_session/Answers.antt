@@ -1,9 +1,9 @@
 -- `put_session` meets its contract.
-use mathlib.Core.Path.{◌≡◌, refl, ap}
+use mathlib.Core.Path.{◌≡◌, refl}
 use mathlib.Core.List.{List, [], ◌∷◌, ◌++◌}
 use Prim.Native.Nat.{ℕ}
 use native.Mathlib.Omega.{arith}
-use lib.ListN.{length, set, length-set, length-append}
+use lib.ListN.{length, length-set, length-append}
 use Rattle.book.specs.Bounds.{most_processes}
 use Rattle.lists.proofs.Over.{length_tab}
 use Rattle.words.specs.Session.{machine_start, place_start, lengths_start, delivered_at, session_length, place_words, session_words}
@@ -37,16 +37,14 @@ pub returns : goal.returns
 unfolding session_words
 returns c = let a = c.args in
     let session = a.session in
-    let first : List ℕ = c.of_number.result ∷ (c.of_number-2.result ∷ (session.purpose ∷ [])) in
+    let first : List ℕ = session.n ∷ (session.initiator.0 ∷ (session.purpose ∷ [])) in
     let second = initiator_words session.machine in
     let third = place_words session.participants most_processes in
     let fourth = number_words session.lengths in
     let fifth : List ℕ = session.delivered ∷ [] in
-    rw (c.of_number.ensures, c.of_number-2.ensures) at
-    (sets_all (first ++ (second ++ (third ++ (fourth ++ fifth)))) a.words.now
+    sets_all (first ++ (second ++ (third ++ (fourth ++ fifth)))) a.words.now
     (simp (length-append, length_initiator, length_places, length_tab) (omega (arith, c.requires)))
     (sets_then first (second ++ (third ++ (fourth ++ fifth))) a.words.now 0 refl refl
     (sets_then second (third ++ (fourth ++ fifth)) _ machine_start c.put_initiator.ensures (simp length_initiator)
     (sets_then third (fourth ++ fifth) c.put_initiator.new.words (place_start 0) c.put_places.ensures (simp length_places)
-    (sets_then fourth fifth c.put_places.new.words lengths_start {next = delivered_at} c.put_numbers.ensures (simp length_tab)
-    (ap (set c.put_numbers.new.words delivered_at) c.of_tally.ensures))))))
+    (sets_then fourth fifth c.put_places.new.words lengths_start {next = delivered_at} c.put_numbers.ensures (simp length_tab) refl))))

@@ -6,10 +6,8 @@ pub returns : goal.returns
 unfolding session_in
 returns c = rw (
   c.tally_in.ensures,
-  c.number-2.ensures,
   c.numbers_at-lengths.ensures,
   c.places_at-participants.ensures,
   c.initiator_at-machine.ensures,
-  c.number.ensures,
   c.size_in-n.ensures,
 )

@@ -11,4 +11,4 @@ returns-then-not-session_decodes c = let decodes = c.session_decodes in
 pub returns : goal.returns
 unfolding session_in
 returns c = let decodes = c.session_decodes in
-    rw (sym decodes.ensures ∙ c.if-not-session_decodes.false) c.number.ensures
+    rw (sym decodes.ensures ∙ c.if-not-session_decodes.false)

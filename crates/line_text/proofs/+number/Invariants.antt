@@ -1,6 +1,0 @@
--- The measure of `number` is the number.
--- Assumes nothing.
-use Rattle.line_text.proofs.+number.Given as goal
-
-abbrev pub decreases-number : goal.decreases-number
-decreases-number l = l.v
