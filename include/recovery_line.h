@@ -168,7 +168,7 @@ extern "C" {
 #define RECOVERY_LINE_MOST_RESEND_BYTES \
     (2 + RECOVERY_LINE_PROCESSES * (RECOVERY_LINE_PROCESSES - 1) * (2 + 2 * RECOVERY_LINE_GROUPS))
 
-/* The stack that suffices for every call: a twelfth more than the most that was measured, rounded up. */
+/* The stack that suffices for every call: more than a tenth above the most that was measured. */
 #define RECOVERY_LINE_STACK_BYTES 77824
 
 /* An entry of a table: a counter. */
@@ -346,7 +346,7 @@ RECOVERY_LINE_NODISCARD uint32_t recovery_line_session_start(
  * as the start or the turn before left them. RECOVERY_LINE_STRAND_BYTES(n) bytes always suffice. What then holds after every
  * list of turns, in whatever order, is proved of these words: docs/PROVED.md, "Demand 3 for callers from C, C++ and Rust".
  * Questions: the tables', 10, 11, 13, 17, 18.
- * Stack: 72704 bytes. */
+ * Stack: 69632 bytes. */
 RECOVERY_LINE_NODISCARD uint32_t recovery_line_session_turn(
     uint64_t *session, size_t session_len, const uint64_t *shape, size_t shape_len,
     const recovery_line_counter *sent, size_t sent_len, const recovery_line_counter *received, size_t received_len,

@@ -7,6 +7,7 @@ ghost use Rattle.lists.specs.Over.{tab};
 ghost use Rattle.machine.specs.Named.{tally_limit};
 ghost use Rattle.accepted.specs.Holding.{tables_in};
 ghost use Rattle.book.specs.Accepted.{IsProcess};
+ghost use Rattle.message.specs.Read.{no_message};
 ghost use Rattle.participant.specs.Calls.{read_by};
 ghost use Rattle.initiator.specs.Calls as calls;
 ghost use Rattle.session.specs.Workers.{participant_at};
@@ -14,7 +15,7 @@ ghost use Rattle.session.specs.Calls.{no_session};
 ghost use Rattle.session.specs.Steps.{place_at_start, begun, delivered_on, on_strand, deliver_down, deliver_up, as_before};
 
 use accepted::Accepted;
-use book::{Process, Shape};
+use book::{Count, Process, Shape};
 use initiator::Initiator;
 use mail::Outgoing;
 use message::{Head, Message};
@@ -127,8 +128,8 @@ fn on_strand(k: usize, initiator: usize, outgoing: Outgoing) -> Outgoing
     machine::only_to(head, Process(k + 1), news)
 }
 
-// Participant k takes the step that the message asks for.
-pub fn deliver_down(session: Session, tables: &Accepted, k: usize, message: Message) -> Turned
+// Participant k takes the step that a message asks for, which was read from bytes that wait on its strand.
+pub fn deliver_message(session: Session, tables: &Accepted, k: usize, message: Message) -> Turned
     requires is_process { IsProcess tables.now.rows (suc k) }
     requires k_value { (participant_at session k).me.0 ≡ suc k }
     requires k_value_2 { (participant_at session k).initiator.0 ≡ session.initiator.0 }
@@ -148,6 +149,45 @@ pub fn deliver_down(session: Session, tables: &Accepted, k: usize, message: Mess
         session: delivered_on(session, k, machine, participants),
         outgoing: on_strand(k, initiator.0 - 1, outgoing),
     }
+}
+
+// What bytes that are not formed are read as.
+fn no_message() -> Message
+    ensures { result ≡ no_message }
+{
+    Message {
+        head: Head {
+            kind: 0,
+            purpose: 0,
+            sender: Process(0),
+        },
+        news: [Count(0); 16],
+    }
+}
+
+// The message that bytes hold for a participant.
+fn read_for(p: Participant, n: usize, s: &[u8]) -> Message
+    requires { n ≤ 16 }
+    ensures { result ≡ read_by n p s.now }
+{
+    match message::read_message(s, n, p.me, p.initiator) {
+        Some(message) => message,
+        None => no_message(),
+    }
+}
+
+// Participant k takes the step that the message asks for.
+pub fn deliver_down(session: Session, tables: &Accepted, k: usize, s: &[u8]) -> Turned
+    requires is_process { IsProcess tables.now.rows (suc k) }
+    requires k_value { (participant_at session k).me.0 ≡ suc k }
+    requires k_value_2 { (participant_at session k).initiator.0 ≡ session.initiator.0 }
+    requires le_initiator { (1 ≤ session.initiator.0) × (session.initiator.0 ≤ 16) }
+    requires k_bound { (k < 16) × (session.delivered < tally_limit) }
+    ensures { result ≡ deliver_down (tables_in tables.now) session k s.now }
+{
+    let participants = session.participants;
+    let message = read_for(participants[k], tables.rows.shape.n, s);
+    deliver_message(session, tables, k, message)
 }
 
 // The initiator takes the step that k's report asks for.

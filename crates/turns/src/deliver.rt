@@ -24,7 +24,7 @@ fn hand_over(session: Session, tables: &Accepted, k: usize, s: &[u8], w: Waiting
             let participants = session.participants;
             let p = participants[k];
             let message = message::read_message(s, tables.rows.shape.n, p.me, p.initiator).unwrap();
-            session_steps::deliver_down(session, tables, k, message)
+            session_steps::deliver_message(session, tables, k, message)
         }
         Waiting::Report => session_steps::deliver_up(session, tables, k, s),
     }

@@ -1,52 +1,31 @@
 -- `deliver_down` meets its contract.
-use mathlib.Core.Path.{◌≡◌}
+use mathlib.Core.Path.{◌≡◌, refl, sym, ap, ◌∙◌}
 use native.Mathlib.Omega.{arith}
+use borrow.Author.Rules.{rules}
 use lib.ListN.{length, get_or}
-use Rattle.accepted.specs.Holding.{tables_in}
-use Rattle.participant.specs.Calls.{no_participant}
+use Rattle.line_theory.proofs.Accepted.{rows_few}
+use Rattle.participant.specs.Calls.{no_participant, read_by}
 use Rattle.session.specs.Workers.{participant_at}
 use Rattle.lists.proofs.Over.{at_place}
-use Rattle.session_steps.proofs.Steps.{beyond, names_down, down_is}
-use borrow.Author.Rules.{rules}
+use Rattle.session_steps.proofs.Steps.{beyond}
 use Rattle.session_steps.proofs.deliver_down.Goals as goal
 
-pub step-next-requires : goal.step-next-requires
-step-next-requires c = let long : length c.args.session.participants ≡ 16 = search rules in
-    let taken : let a = c.args in get_or a.session.participants a.k beyond ≡ participant_at a.session a.k = let a = c.args in
-    at_place beyond no_participant a.session.participants a.k (omega (arith, long, c.requires.k_bound.0)) in
-    let a = c.args in
-    let pre = c.requires in
-    let names = names_down a.tables.now.rows a.k a.session.initiator.0 _ (participant_at a.session a.k) (taken) pre.k_value pre.k_value_2 pre.is_process pre.le_initiator in
-    record { is_process = names.0; le_initiator = names.1 }
+pub offset_bounds-participants-k : goal.offset_bounds-participants-k
+offset_bounds-participants-k c = omega (arith, c.requires.k_bound.0)
 
-pub offset_bounds-participants-k-2 : goal.offset_bounds-participants-k-2
-offset_bounds-participants-k-2 c = omega (arith, c.requires.k_bound.0)
+pub bounds-participants-k : goal.bounds-participants-k
+bounds-participants-k c = c.requires.k_bound.0
 
-pub bounds-participants-k-2 : goal.bounds-participants-k-2
-bounds-participants-k-2 c = c.requires.k_bound.0
+pub read_for-message-requires : goal.read_for-message-requires
+read_for-message-requires c = rows_few c.args.tables.now.passed
 
-pub delivered_on-requires : goal.delivered_on-requires
-delivered_on-requires c = c.requires.k_bound
-
-pub overflow_sub-initiator : goal.overflow_sub-initiator
-overflow_sub-initiator c = c.requires.le_initiator.0
-
-pub on_strand-requires : goal.on_strand-requires
-on_strand-requires c = let pre = c.requires in
-    (pre.k_bound.0, omega (arith, pre.le_initiator))
+pub deliver_message-requires : goal.deliver_message-requires
+deliver_message-requires c = c.requires
 
 pub returns : goal.returns
-returns c = λ s is. let long : length c.args.session.participants ≡ 16 = search rules in
-    let taken : let a = c.args in get_or a.session.participants a.k beyond ≡ participant_at a.session a.k = let a = c.args in
-    at_place beyond no_participant a.session.participants a.k (omega (arith, long, c.requires.k_bound.0)) in
+returns c =
     let a = c.args in
-    let next = c.step-next in
-    down_is (tables_in a.tables.now) a.session a.k s _ a.message next.result
-    c.delivered_on.result
-    c.on_strand.result
-    (taken)
-    c.requires.k_value
-    is
-    next.ensures
-    c.delivered_on.ensures
-    c.on_strand.ensures
+    let long : length a.session.participants ≡ 16 = search rules in
+    let taken : get_or a.session.participants a.k beyond ≡ participant_at a.session a.k =
+    at_place beyond no_participant a.session.participants a.k (omega (arith, long, c.requires.k_bound.0)) in
+    c.deliver_message.ensures a.s.now (c.read_for-message.ensures ∙ ap (λ p. read_by a.tables.now.rows.shape.n p a.s.now) taken)

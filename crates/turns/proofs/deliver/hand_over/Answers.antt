@@ -34,7 +34,7 @@ pub returns-in-Asking : goal.returns-in-Asking
 returns-in-Asking c = let a = c.args in
     let long : length a.session.participants ≡ 16 = search rules in
     handed_down (tables_in a.tables.now) a.session a.k a.s.now c.in-Asking.is
-    (c.deliver_down.ensures a.s.now
+    (c.deliver_message.ensures a.s.now
     (down_read a.tables.now.rows.shape.n a.session a.k a.s.now _
     (at_place beyond no_participant a.session.participants a.k (omega (arith, long, c.requires.deliverable.counted.0)))
     c.read_message.ensures
