@@ -168,7 +168,7 @@ extern "C" {
 #define RECOVERY_LINE_MOST_RESEND_BYTES \
     (2 + RECOVERY_LINE_PROCESSES * (RECOVERY_LINE_PROCESSES - 1) * (2 + 2 * RECOVERY_LINE_GROUPS))
 
-/* The stack that suffices for every call: more than a tenth above the most that was measured. */
+/* The stack that suffices for every call: a tenth more than the most that was measured, rounded up. */
 #define RECOVERY_LINE_STACK_BYTES 77824
 
 /* An entry of a table: a counter. */
@@ -389,7 +389,7 @@ RECOVERY_LINE_NODISCARD uint32_t recovery_line_write_resend(
 
 /* Reads a list of what to send again among n processes into `resend`, every word of it.
  * Questions: 4 of n, 3 of the count, then entry by entry 3 of all four numbers, 10, 21, and 21 of the end.
- * Stack: 7168 bytes. */
+ * Stack: 5120 bytes. */
 RECOVERY_LINE_NODISCARD uint32_t recovery_line_read_resend(
     uint64_t n, const uint8_t *bytes, size_t bytes_len, uint64_t *resend, size_t resend_len);
 

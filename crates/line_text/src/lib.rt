@@ -3,7 +3,7 @@
 mod growing;
 
 ghost use Rattle.std.specs.Prelude.{◌≡◌, ◌≤◌, take};
-ghost use Rattle.book.specs.Numbers.{number, by_number};
+ghost use Rattle.book.specs.Numbers.{by_number};
 ghost use Rattle.line_text.specs.Text.{found_text, refused_text};
 ghost use Rattle.line_text.specs.Put.{put_answer, text_put};
 ghost use Rattle.line_text.specs.Line.{table_inside, line_text};
@@ -32,11 +32,11 @@ pub fn found_text(
 }
 
 // The text for a refused book.
-pub fn refused_text(question: Question) -> Text
-    ensures { Holds result (refused_text (number question)) }
+pub fn refused_text(question: u32) -> Text
+    ensures { Holds result (refused_text question) }
 {
     let mut text = Text::empty();
-    text.labelled(b"refused", question.number() as u64);
+    text.labelled(b"refused", question as u64);
     text
 }
 
@@ -83,6 +83,6 @@ pub fn line_text(bytes: &[u8], out: &mut [u8]) -> Result<usize, Question>
 {
     match search_text(bytes) {
         Ok(found) => put_text(&found, out),
-        Err(question) => put_text(&refused_text(question), out),
+        Err(question) => put_text(&refused_text(question.number()), out),
     }
 }

@@ -34,10 +34,10 @@ fn sizes_question(bytes: usize, sent: usize, received: usize) -> Result<(), Ques
     Ok(())
 }
 
-// One row of process j: questions 3 and 6 to 8 of its counters, each put into its column, and the place after them. An oldest row
-// has none before it; `zeros` says whether question 7 is asked. Books are mostly counters: these are read by the function that
-// has no loop.
-fn take_counters(
+// The counters of one row of process j: questions 3 and 6 to 8 of each, which is put into its column, and the place after them. An
+// oldest row has none before it; `zeros` says whether question 7 is asked. Books are mostly counters: these are read by the function
+// that has no loop.
+fn take_each_counter(
     s: &[u8],
     at: usize,
     oldest: bool,
@@ -62,6 +62,27 @@ fn take_counters(
         next = after;
     }
     Ok(next)
+}
+
+// One row of process j. A single process has no counters, and its rows cost no call.
+#[inline(always)]
+fn take_counters(
+    s: &[u8],
+    at: usize,
+    oldest: bool,
+    zeros: bool,
+    n: usize,
+    j: usize,
+    table: &mut [Counter],
+    start: usize,
+) -> Result<usize, Question>
+    requires { RowClear oldest n j start table.old }
+    ensures { RowTaken oldest zeros n j start s.now at result table.old table.new }
+{
+    if n < 2 {
+        return Ok(at);
+    }
+    take_each_counter(s, at, oldest, zeros, n, j, table, start)
 }
 
 // The checkpoints of process j, whose rows begin at `first`: for each, a row of sent counters, then one of received. The place
@@ -183,7 +204,9 @@ pub fn fill(bytes: &[u8], sent: &mut [Counter], received: &mut [Counter])
     let _ = read(bytes, sent, received);
 }
 
-// A book's bytes taken into the lent tables, or refused by the first question that fails, the tables then unchanged.
+// A book's bytes taken into the lent tables, or refused by the first question that fails, the tables then unchanged. Not inlined, so
+// that the tables inside leave the stack before the caller goes on.
+#[inline(never)]
 pub fn read(bytes: &[u8], sent: &mut [Counter], received: &mut [Counter]) -> Result<Shape, Question>
     ensures answer { by_number result ≡ answer_with (read_question bytes.now sent.old received.old) (shape_of (book_read bytes.now)) }
     ensures sent { sent.new ≡ sent_read bytes.now sent.old received.old }

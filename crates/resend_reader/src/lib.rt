@@ -69,8 +69,10 @@ fn read_entries(s: &[u8], at: usize, n: usize, count: u64) -> Result<Resend, Que
     requires { n ≤ most_processes }
     ensures { by_number result ≡ answer_with (question_from n s.now at count) (entries_from s.now at) }
 {
-    let mut first = [Count(0); 256];
-    let mut last = [Count(0); 256];
+    let mut list = Resend {
+        first: [Count(0); 256],
+        last: [Count(0); 256],
+    };
     let mut sender: u64 = 0;
     let mut receiver: u64 = 0;
     let mut next = at;
@@ -82,14 +84,14 @@ fn read_entries(s: &[u8], at: usize, n: usize, count: u64) -> Result<Resend, Que
         sender = entry.sender;
         receiver = entry.receiver;
         let place = (sender as usize - 1) * book::ROW_WIDTH + (receiver as usize - 1);
-        first[place] = Count(entry.first as Counter);
-        last[place] = Count(entry.last as Counter);
+        list.first[place] = Count(entry.first as Counter);
+        list.last[place] = Count(entry.last as Counter);
         next = after;
     }
     if next != s.len() {
         return Err(Question::ListFormed);
     }
-    Ok(Resend { first, last })
+    Ok(list)
 }
 
 // The list that bytes hold, among n processes: question 4 of n, 3 of the leading count, then entry by entry 3, 10 and 21.

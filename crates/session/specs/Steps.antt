@@ -7,6 +7,7 @@ use Rattle.book.specs.Bounds.{most_processes}
 use Rattle.lists.specs.Over.{tab}
 use Rattle.lists.specs.Pick.{pick}
 use Rattle.matrix.specs.Matrix.{row}
+use Rattle.message.specs.declared.Message.{Message}
 use Rattle.mail.specs.declared.Outgoing.{Outgoing}
 use Rattle.mail.specs.Outgoing.{goes_to, no_lengths}
 use Rattle.machine.specs.Own.{own_of}
@@ -80,16 +81,19 @@ unfoldable pub on_strand : ℕ → ℕ → Outgoing → Outgoing
 on_strand k initiator o =
     pick (goes_to o initiator) (only_to o.head k (row o.news initiator)) (nothing o.head)
 
--- participant k takes the step that the message asks for
-unfoldable pub deliver_down : Tables → Session → ℕ → List ℕ → Turned
-deliver_down tables session k s =
-    let p : Participant = participant_at session k in
-    let next : ParticipantStep =
-    participant.step (own_of tables k) p (participant_calls.read_by tables.shape.n p s) in
+-- participant k takes the step that a message asks for
+abbrev pub deliver_message : Tables → Session → ℕ → Message → Turned
+deliver_message tables session k message =
+    let next : ParticipantStep = participant.step (own_of tables k) (participant_at session k) message in
     record {
       session = delivered_on session k session.machine (set session.participants k next.state);
       outgoing = on_strand k (initiator_of session) next.outgoing;
     }
+
+-- and the message is the one that the bytes hold
+unfoldable pub deliver_down : Tables → Session → ℕ → List ℕ → Turned
+deliver_down tables session k s =
+    deliver_message tables session k (participant_calls.read_by tables.shape.n (participant_at session k) s)
 
 -- the initiator does; what it sends to each participant is put on that one's strand
 unfoldable pub deliver_up : Tables → Session → ℕ → List ℕ → Turned

@@ -38,7 +38,7 @@ use Rattle.session.specs.declared.Session.{Session}
 use Rattle.session.specs.declared.Turned.{Turned}
 use Rattle.session.specs.Workers.{initiator_of, participant_at}
 use Rattle.session.specs.Calls.{no_session}
-use Rattle.session.specs.Steps.{place_at_start, begun, delivered_on, on_strand, deliver_down, deliver_up, as_before}
+use Rattle.session.specs.Steps.{place_at_start, begun, delivered_on, on_strand, deliver_message, deliver_down, deliver_up, as_before}
 
 -- ---- beside a refusal, and where nothing is delivered
 
@@ -128,26 +128,31 @@ names_down rows k initiator p q e me its present there =
     let from : p.initiator.0 ≡ initiator = ap (λ (t : Participant). t.initiator.0) e ∙ its in
     (omega (arith, mine, present), omega (arith, from, there))
 
-pub down_is : (tables : Tables) (session : Session) (k : ℕ) (s : List ℕ) (p : Participant) (m : Message)
+pub message_is : (tables : Tables) (session : Session) (k : ℕ) (p : Participant) (m : Message)
     (next : ParticipantStep) (after : Session) (o : Outgoing) → p ≡ participant_at session k → (participant_at session k).me.0 ≡ suc k
-    → m ≡ read_down tables.shape.n (participant_at session k) s
     → next ≡ participant.step (own_of tables (p.me.0 - 1)) p m
     → after ≡ delivered_on session k session.machine (set session.participants k next.state)
     → o ≡ on_strand k (initiator_of session) next.outgoing
-    → ◌≡◌ {A = Turned} (record { session = after; outgoing = o }) (deliver_down tables session k s)
-unfolding deliver_down
-down_is tables session k s p m next after o e me f g h r =
+    → ◌≡◌ {A = Turned} (record { session = after; outgoing = o }) (deliver_message tables session k m)
+message_is tables session k p m next after o e me g h r =
     let q : Participant = participant_at session k in
     let mine : q.me.0 - 1 ≡ k = omega (arith, me) in
-    let read : Message = read_down tables.shape.n q s in
-    let at_its : next ≡ participant.step (own_of tables (q.me.0 - 1)) q read =
-    g ∙ (λ i. participant.step (own_of tables ((e i).me.0 - 1)) (e i) (f i)) in
-    let is_next : next ≡ participant.step (own_of tables k) q read =
-    at_its ∙ ap (λ (j : ℕ). participant.step (own_of tables j) q read) mine in
+    let at_its : next ≡ participant.step (own_of tables (q.me.0 - 1)) q m =
+    g ∙ (λ i. participant.step (own_of tables ((e i).me.0 - 1)) (e i) m) in
+    let is_next : next ≡ participant.step (own_of tables k) q m =
+    at_its ∙ ap (λ (j : ℕ). participant.step (own_of tables j) q m) mine in
     let is_after =
     h ∙ ap (λ (t : ParticipantStep). delivered_on session k session.machine (set session.participants k t.state)) is_next in
     let is_sent = r ∙ ap (λ (t : ParticipantStep). on_strand k (initiator_of session) t.outgoing) is_next in
     λ i. record { session = is_after i; outgoing = is_sent i }
+
+-- the message is the one that its bytes hold
+pub down_is : (tables : Tables) (session : Session) (k : ℕ) (s : List ℕ) (p : Participant) (m : Message) {turned : Turned}
+    → p ≡ participant_at session k → m ≡ read_down tables.shape.n p s → turned ≡ deliver_message tables session k m
+    → turned ≡ deliver_down tables session k s
+unfolding deliver_down
+down_is tables session k s p m at read e =
+    e ∙ ap (λ (q : Message). deliver_message tables session k q) (read ∙ ap (λ (q : Participant). read_down tables.shape.n q s) at)
 
 -- ---- a report is delivered to the initiator
 

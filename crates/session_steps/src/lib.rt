@@ -1,7 +1,7 @@
 #![tactic(auto)]
 // Document 01, "Session": beginning a search, and delivering a message. Inner functions, for the calls of a session, which have
 // put the questions. Processes count from 0 here, but for those that are named.
-ghost use Rattle.std.specs.Prelude.{◌≡◌, List, [], ℕ, suc, ◌-◌, ◌≤◌, ◌<◌};
+ghost use Rattle.std.specs.Prelude.{◌≡◌, [], suc, ◌-◌, ◌≤◌, ◌<◌};
 ghost use Rattle.book.specs.Lent.{lent};
 ghost use Rattle.lists.specs.Over.{tab};
 ghost use Rattle.machine.specs.Named.{tally_limit};
@@ -12,7 +12,7 @@ ghost use Rattle.participant.specs.Calls.{read_by};
 ghost use Rattle.initiator.specs.Calls as calls;
 ghost use Rattle.session.specs.Workers.{participant_at};
 ghost use Rattle.session.specs.Calls.{no_session};
-ghost use Rattle.session.specs.Steps.{place_at_start, begun, delivered_on, on_strand, deliver_down, deliver_up, as_before};
+ghost use Rattle.session.specs.Steps.{place_at_start, begun, delivered_on, on_strand, deliver_message, deliver_down, deliver_up, as_before};
 
 use accepted::Accepted;
 use book::{Count, Process, Shape};
@@ -128,14 +128,14 @@ fn on_strand(k: usize, initiator: usize, outgoing: Outgoing) -> Outgoing
     machine::only_to(head, Process(k + 1), news)
 }
 
-// Participant k takes the step that a message asks for, which was read from bytes that wait on its strand.
+// Participant k takes the step that a message asks for.
 pub fn deliver_message(session: Session, tables: &Accepted, k: usize, message: Message) -> Turned
     requires is_process { IsProcess tables.now.rows (suc k) }
     requires k_value { (participant_at session k).me.0 ≡ suc k }
     requires k_value_2 { (participant_at session k).initiator.0 ≡ session.initiator.0 }
     requires le_initiator { (1 ≤ session.initiator.0) × (session.initiator.0 ≤ 16) }
     requires k_bound { (k < 16) × (session.delivered < tally_limit) }
-    ensures { (s : List ℕ) → message ≡ read_by tables.now.rows.shape.n (participant_at session k) s → result ≡ deliver_down (tables_in tables.now) session k s }
+    ensures { result ≡ deliver_message (tables_in tables.now) session k message }
 {
     let mut participants = session.participants;
     let p = participants[k];
@@ -176,7 +176,7 @@ fn read_for(p: Participant, n: usize, s: &[u8]) -> Message
     }
 }
 
-// Participant k takes the step that the message asks for.
+// And the message is the one that the bytes hold.
 pub fn deliver_down(session: Session, tables: &Accepted, k: usize, s: &[u8]) -> Turned
     requires is_process { IsProcess tables.now.rows (suc k) }
     requires k_value { (participant_at session k).me.0 ≡ suc k }

@@ -170,10 +170,8 @@ pub fn put_resend(resend: Resend, words: &mut [u64], at: usize)
     requires { at + resend_length ≤ length words.old }
     ensures { words.new ≡ sets words.old at (resend_words resend) }
 {
-    let first = resend.first;
-    let last = resend.last;
-    put_counts(first, words, at);
-    put_counts(last, words, at + layout::RESEND_LAST_AT);
+    put_counts(resend.first, words, at);
+    put_counts(resend.last, words, at + layout::RESEND_LAST_AT);
 }
 
 // An order, to a slice of its length.

@@ -6,4 +6,4 @@ use Rattle.line_text.proofs.refused_text.Goals as goal
 
 pub returns : goal.returns
 unfolding refused_text
-returns c = rw (← c.number.ensures) (holds_grown c.empty-text.ensures c.labelled.ensures)
+returns c = holds_grown c.empty-text.ensures c.labelled.ensures

@@ -47,23 +47,23 @@ overflow_sub-place-in-loop-k c = (named _ _ _ _ _ _ _ c.requires refl (is_accept
 pub overflow_add-place : goal.overflow_add-place
 overflow_add-place c = let p = named _ _ _ _ _ _ _ c.requires refl (is_accepted _ _ c.entry_question.ensures c.in_ok-entry_question.was) in omega arith
 
-pub overflow_cast-first : goal.overflow_cast-first
-overflow_cast-first c = omega (arith, c.in-Some.ensures.1)
+pub overflow_cast-list : goal.overflow_cast-list
+overflow_cast-list c = omega (arith, c.in-Some.ensures.1)
 
-pub offset_bounds-first-place : goal.offset_bounds-first-place
-offset_bounds-first-place c = let p = named _ _ _ _ _ _ _ c.requires refl (is_accepted _ _ c.entry_question.ensures c.in_ok-entry_question.was) in omega arith
+pub offset_bounds-list-place : goal.offset_bounds-list-place
+offset_bounds-list-place c = let p = named _ _ _ _ _ _ _ c.requires refl (is_accepted _ _ c.entry_question.ensures c.in_ok-entry_question.was) in omega arith
 
-pub bounds-first-place : goal.bounds-first-place
-bounds-first-place c = let p = named _ _ _ _ _ _ _ c.requires refl (is_accepted _ _ c.entry_question.ensures c.in_ok-entry_question.was) in omega arith
+pub bounds-list-place : goal.bounds-list-place
+bounds-list-place c = let p = named _ _ _ _ _ _ _ c.requires refl (is_accepted _ _ c.entry_question.ensures c.in_ok-entry_question.was) in omega arith
 
-pub overflow_cast-last : goal.overflow_cast-last
-overflow_cast-last c = omega (arith, c.in-Some.ensures.2)
+pub overflow_cast-list-in-loop-k : goal.overflow_cast-list-in-loop-k
+overflow_cast-list-in-loop-k c = omega (arith, c.in-Some.ensures.2)
 
-pub offset_bounds-last-place : goal.offset_bounds-last-place
-offset_bounds-last-place c = let p = named _ _ _ _ _ _ _ c.requires refl (is_accepted _ _ c.entry_question.ensures c.in_ok-entry_question.was) in omega arith
+pub offset_bounds-list-place-in-loop-k : goal.offset_bounds-list-place-in-loop-k
+offset_bounds-list-place-in-loop-k c = let p = named _ _ _ _ _ _ _ c.requires refl (is_accepted _ _ c.entry_question.ensures c.in_ok-entry_question.was) in omega arith
 
-pub bounds-last-place : goal.bounds-last-place
-bounds-last-place c = let p = named _ _ _ _ _ _ _ c.requires refl (is_accepted _ _ c.entry_question.ensures c.in_ok-entry_question.was) in omega arith
+pub bounds-list-place-in-loop-k : goal.bounds-list-place-in-loop-k
+bounds-list-place-in-loop-k c = let p = named _ _ _ _ _ _ _ c.requires refl (is_accepted _ _ c.entry_question.ensures c.in_ok-entry_question.was) in omega arith
 
 pub loop-k-preserved : goal.loop-k-preserved
 loop-k-preserved c = sofar_more _ _ _ _ _ _ _ _ _ _ c.loop-k.invariant c.loop-k-test.true _ _ c.in-Some.ensures _

@@ -4,4 +4,4 @@ use Rattle.resend_reader.proofs.read_entries.Given as goal
 
 abbrev pub invariant-loop-k : goal.invariant-loop-k
 invariant-loop-k l =
-    Sofar l.n l.s l.at l.count l.first l.last l.sender l.receiver l.next l.k
+    Sofar l.n l.s l.at l.count l.list.first l.list.last l.sender l.receiver l.next l.k

@@ -1,13 +1,14 @@
 -- `deliver_down` meets its contract.
-use mathlib.Core.Path.{◌≡◌, refl, sym, ap, ◌∙◌}
+use mathlib.Core.Path.{◌≡◌, ap, ◌∙◌}
 use native.Mathlib.Omega.{arith}
 use borrow.Author.Rules.{rules}
 use lib.ListN.{length, get_or}
+use Rattle.accepted.specs.Holding.{tables_in}
 use Rattle.line_theory.proofs.Accepted.{rows_few}
-use Rattle.participant.specs.Calls.{no_participant, read_by}
+use Rattle.participant.specs.Calls.{no_participant}
 use Rattle.session.specs.Workers.{participant_at}
 use Rattle.lists.proofs.Over.{at_place}
-use Rattle.session_steps.proofs.Steps.{beyond}
+use Rattle.session_steps.proofs.Steps.{beyond, down_is}
 use Rattle.session_steps.proofs.deliver_down.Goals as goal
 
 pub offset_bounds-participants-k : goal.offset_bounds-participants-k
@@ -28,4 +29,4 @@ returns c =
     let long : length a.session.participants ≡ 16 = search rules in
     let taken : get_or a.session.participants a.k beyond ≡ participant_at a.session a.k =
     at_place beyond no_participant a.session.participants a.k (omega (arith, long, c.requires.k_bound.0)) in
-    c.deliver_message.ensures a.s.now (c.read_for-message.ensures ∙ ap (λ p. read_by a.tables.now.rows.shape.n p a.s.now) taken)
+    down_is (tables_in a.tables.now) a.session a.k a.s.now _ _ taken c.read_for-message.ensures c.deliver_message.ensures

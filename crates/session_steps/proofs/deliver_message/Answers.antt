@@ -6,7 +6,7 @@ use Rattle.accepted.specs.Holding.{tables_in}
 use Rattle.participant.specs.Calls.{no_participant}
 use Rattle.session.specs.Workers.{participant_at}
 use Rattle.lists.proofs.Over.{at_place}
-use Rattle.session_steps.proofs.Steps.{beyond, names_down, down_is}
+use Rattle.session_steps.proofs.Steps.{beyond, names_down, message_is}
 use borrow.Author.Rules.{rules}
 use Rattle.session_steps.proofs.deliver_message.Goals as goal
 
@@ -36,17 +36,16 @@ on_strand-requires c = let pre = c.requires in
     (pre.k_bound.0, omega (arith, pre.le_initiator))
 
 pub returns : goal.returns
-returns c = λ s is. let long : length c.args.session.participants ≡ 16 = search rules in
+returns c = let long : length c.args.session.participants ≡ 16 = search rules in
     let taken : let a = c.args in get_or a.session.participants a.k beyond ≡ participant_at a.session a.k = let a = c.args in
     at_place beyond no_participant a.session.participants a.k (omega (arith, long, c.requires.k_bound.0)) in
     let a = c.args in
     let next = c.step-next in
-    down_is (tables_in a.tables.now) a.session a.k s _ a.message next.result
+    message_is (tables_in a.tables.now) a.session a.k _ a.message next.result
     c.delivered_on.result
     c.on_strand.result
     (taken)
     c.requires.k_value
-    is
     next.ensures
     c.delivered_on.ensures
     c.on_strand.ensures

@@ -1,5 +1,5 @@
 -- `hand_over` meets its contract.
-use mathlib.Core.Path.{◌≡◌, sym, ◌∙◌}
+use mathlib.Core.Path.{◌≡◌, refl, sym, ◌∙◌}
 use native.Mathlib.Omega.{arith}
 use borrow.Author.Rules.{rules}
 use lib.ListN.{length}
@@ -8,6 +8,7 @@ use Rattle.lists.proofs.Over.{at_place}
 use Rattle.line_theory.proofs.Accepted.{accepted_size}
 use Rattle.participant.specs.Calls.{no_participant}
 use Rattle.session.proofs.Places.{beyond}
+use Rattle.session_steps.proofs.Steps.{down_is}
 use Rattle.turns.proofs.Delivering.{report_passes, down_passes, down_there, down_read, handed_down}
 use Rattle.turns.proofs.deliver.hand_over.Goals as goal
 
@@ -34,8 +35,9 @@ pub returns-in-Asking : goal.returns-in-Asking
 returns-in-Asking c = let a = c.args in
     let long : length a.session.participants ≡ 16 = search rules in
     handed_down (tables_in a.tables.now) a.session a.k a.s.now c.in-Asking.is
-    (c.deliver_message.ensures a.s.now
+    (down_is (tables_in a.tables.now) a.session a.k a.s.now _ _ refl
     (down_read a.tables.now.rows.shape.n a.session a.k a.s.now _
     (at_place beyond no_participant a.session.participants a.k (omega (arith, long, c.requires.deliverable.counted.0)))
     c.read_message.ensures
-    c.unwrap-message.ensures))
+    c.unwrap-message.ensures)
+    c.deliver_message.ensures)
