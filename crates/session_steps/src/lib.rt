@@ -176,7 +176,7 @@ fn read_for(p: Participant, n: usize, s: &[u8]) -> Message
     }
 }
 
-// And the message is the one that the bytes hold.
+// Participant k takes the step that the message asks for which the bytes hold.
 pub fn deliver_down(session: Session, tables: &Accepted, k: usize, s: &[u8]) -> Turned
     requires is_process { IsProcess tables.now.rows (suc k) }
     requires k_value { (participant_at session k).me.0 ≡ suc k }
